@@ -25,6 +25,25 @@ TOLD, AT_OR_ABOVE, NOT_TOLD, NOT_WRITTEN = 0, 1, 2, 3
 STATUSES = """The status is 0, or with --warn 1 if the log is as full or fuller; 2 if something can't be told, as with a damaged log, a folder
 that another process has, or words that aren't these; and 3 if the output can't be written."""
 
+FORMS = """The object of --json; LSNs are texts, sizes bytes, and what isn't known is null; members may be added:
+
+  form                        1; rises if a member changes or goes
+  log, program, version       the folder or file; the program's and the format's version
+  unsynced                    the mark of a failed sync was there
+  percent                     how full, rounded down
+  containers, container_bytes, block_bytes
+  room, free                  bytes for records in an empty log; free containers and bytes
+  end, damage                 where the log goes on; container, offset and byte of the first wrong byte
+  archive_tail, archive_behind
+                              the tail, and bytes from there on
+  streams                     number, name, base, last (a dead one too), records, live_records, live_bytes (of blocks)
+  holders                     name, number, start, live_records, bytes, free_then
+
+The gauges of --prometheus, each with the label `log`: clfs_damaged, clfs_unsynced, clfs_containers, clfs_free_containers, clfs_room_bytes,
+clfs_free_bytes, clfs_archive_behind_bytes, for each stream clfs_live_records, and for each holder clfs_held_bytes (`stream` is empty for archiving).
+
+"""
+
 
 def percent(word: str) -> int:
     value = int(word)
@@ -47,7 +66,7 @@ def words() -> argparse.ArgumentParser:
     place.add_argument("place", metavar="FOLDER", help="a log's folder, a file with its dump, or - for a dump on standard input")
     place.add_argument("--program", default=os.environ.get("CLFS") or PROGRAM, help="the program that reads a folder")
     about = "how full a log is, and who keeps it so"
-    status = commands.add_parser("status", parents=[place], description=about, help=about, epilog=STATUSES)
+    status = commands.add_parser("status", parents=[place], description=about, help=about, epilog=FORMS + STATUSES, formatter_class=argparse.RawDescriptionHelpFormatter)
     forms = status.add_mutually_exclusive_group()
     forms.add_argument("--json", dest="form", action="store_const", const=json_of, help="as one JSON object")
     forms.add_argument("--prometheus", dest="form", action="store_const", const=prometheus_of, help="as gauges for Prometheus")

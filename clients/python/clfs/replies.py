@@ -164,7 +164,8 @@ class TimedOut(ClfsError):
     """The time of the call is over.
 
     If the program didn't answer in it, the program was killed, and the handle is of no use: of the lines without a reply a first part may have
-    been done. If another thread's call was served all the time, nothing was sent, and the handle is as it was.
+    been done. If another thread's call was served all the time, the program goes on and so does the handle: the line may still be sent and done, and
+    `kill` ends both.
     """
 
 

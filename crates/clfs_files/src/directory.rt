@@ -145,7 +145,7 @@ impl Directory {
         };
         let mut files = open_files(location, &folder)?;
         if has_mark(location, &folder)? {
-            renew(location, &folder, &files)?;
+            renew(location, &folder, files)?;
             files = open_files(location, &folder)?;
         }
         Ok(State::Open(Directory {

@@ -7,6 +7,7 @@
 ghost use Rattle.std.specs.Prelude.{◌≤◌, length, IfOk};
 
 use crate::fault::{Call, Cause, Fault, Place, asked};
+use clfs_lsn::OPEN_GATE;
 use std::alloc::{AllocError, Global};
 use std::fs::{File, Metadata};
 use std::io::{self, ErrorKind};
@@ -18,14 +19,6 @@ pub(crate) const PIECE: usize = 1 << 16;
 
 /// How many files a disk has.
 pub(crate) const FILES: u16 = 257;
-
-// The bytes of a base file, and the most of a container (docs/FORMAT.md).
-const BASE_BYTES: u64 = 1 << 15;
-
-const CONTAINER_BYTES: u64 = 1 << 23;
-
-// The first byte of a container that has records. Without any it is 0.
-const OPEN_GATE: u8 = 0xA5;
 
 /// What tells a file or a folder of the system from all others, whatever the names are by which it is reached.
 #[derive(Clone, Copy, PartialEq, Eq)]

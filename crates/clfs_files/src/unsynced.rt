@@ -16,7 +16,8 @@ use std::fs::{File, Metadata};
 use std::io;
 use std::os::unix::fs::{FileExt, MetadataExt, fchown};
 
-// The most bytes that mean something in a base file, and in a container (docs/FORMAT.md).
+// The most bytes that mean something in a base file, and in a container (docs/FORMAT.md). What is behind them is left out of a copy: whoever
+// makes files of the format longer changes these too.
 const BASE_BYTES: u64 = 1 << 15;
 
 const CONTAINER_BYTES: u64 = 1 << 23;
@@ -35,15 +36,16 @@ pub(crate) fn leave_mark(location: &Location, folder: &HeldFolder) -> Result<(),
     Ok(())
 }
 
-/// Replaces every file by a synced copy of itself, and takes the mark away. After an error each file reads as before, and the mark is there.
+/// Replaces every file by a synced copy of itself, and takes the mark away. After an error each file reads as before, and the mark is there. Each is closed
+/// once its copy has its name, so that the system gives back its room before the next one is copied.
 pub(crate) fn renew(
     location: &Location,
     folder: &HeldFolder,
-    files: &[Option<StoredFile>],
+    files: Vec<Option<StoredFile>>,
 ) -> Result<(), Fault> {
     for slot in files {
         if let Some(file) = slot {
-            renew_file(location, folder, file)?;
+            renew_file(location, folder, &file)?;
         }
     }
     asked(Place::Folder, Call::Sync, folder.sync())?;

@@ -14,7 +14,7 @@ use Rattle.clfs_manager.proofs.StoredKeeps.{IsDone}
 
 -- ---- full lengths
 
-of_ok : {A E : Type 0} (x y : A) (result : Result A E) → result ≡ Ok x → result ≡ Ok y → x ≡ y
+pub of_ok : {A E : Type 0} (x y : A) (result : Result A E) → result ≡ Ok x → result ≡ Ok y → x ≡ y
 of_ok x y result is also = cc
 
 -- Files of full length are so by the newest copy in memory, which is the one that they have.

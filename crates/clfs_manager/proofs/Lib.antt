@@ -45,6 +45,7 @@ pub mod SameCut
 pub mod FilesHold
 pub mod OpenedAnew
 mod CurrentCopy
+pub mod KeptFiles
 pub mod StepCalls
 pub mod AdvancedLog
 mod RestartCall

@@ -8,6 +8,7 @@ use Rattle.clfs_physical.specs.declared.change.Change.TheVariants as changes
 use Rattle.clfs_manager.specs.Sizes.{ChangesSize}
 use Rattle.clfs_manager.proofs.Crashes.{crash_still}
 use Rattle.clfs_manager.proofs.Intact.{made_in, stores_whole, whole_of_stores, writes_nothing}
+use Rattle.clfs_manager.proofs.KeptFiles.{counts_none}
 use Rattle.clfs_manager.proofs.Numbers.{hold_within}
 use Rattle.clfs_manager.proofs.ReadKeeps.{tells_before}
 use Rattle.clfs_manager.proofs.Settled.{stays_settled}
@@ -108,4 +109,5 @@ resizes_nothing value stands by_file disk log further intact same = record {
   writes = writes_nothing _ disk (λ f. cc f);
   moments = λ asked s before behind. crash_still stands by_file disk log intact asked s before;
   old_size = λ f. absurd (cc f);
+  files = λ fine. counts_none disk disk log log intact.sound.unbroken refl;
 }

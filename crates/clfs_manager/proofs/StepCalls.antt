@@ -8,7 +8,9 @@ use Rattle.clfs_model.specs.declared.refusal.Refusal.TheVariants as refusals
 use Rattle.clfs_model.specs.declared.reply.Reply.TheVariants as replies
 use Rattle.clfs_model.specs.Step.{IsDamaged}
 use Rattle.clfs_manager.specs.Calls.{IsRefused, replied}
+use Rattle.clfs_manager.specs.Written.{LeavesCopy}
 use Rattle.clfs_manager.proofs.Intact.{writes_as, writes_nothing}
+use Rattle.clfs_manager.proofs.KeptFiles.{copy_as, copy_stays}
 
 -- an answer's reply, by the reply that has its value
 pub said : {A : Type 0} (answer : A → Reply) (result : Result A Refusal) (reply : Reply)
@@ -57,15 +59,16 @@ pub still : {A : Type 0} (told : Bool) (s : State) (client : ℕ) (call : Call) 
 still told s client call answer result reply t disk uncalled is step =
     writes_nothing (reply ≡ replies.Refused refusals.DiskFault) disk (λ fault. step_unfaulted told s client call (replied answer result) t uncalled step (sym is ∙ fault))
 
+-- a fault, as the reply has it
+fault_said : {A : Type 0} (answer : A → Reply) (result : Result A Refusal) → IsErrOf result refusals.DiskFault → replied answer result ≡ replies.Refused refusals.DiskFault
+fault_said answer (Ok value) fault = absurd (cc fault)
+fault_said answer (Err refusal) fault = let same : refusal ≡ refusals.DiskFault = cc fault in ap (λ (r : Refusal). replies.Refused r) same
+
 -- a call that may write, by its reply
 pub written : {A : Type 0} (answer : A → Reply) (result : Result A Refusal) (reply : Reply) (old new : DiskState) → ((x : A) → answer x ≢ replies.Refused refusals.DiskFault)
     → reply ≡ replied answer result → WritesDisk (IsErrOf result refusals.DiskFault) old new → WritesDisk (reply ≡ replies.Refused refusals.DiskFault) old new
-written {A} answer result reply old new never is writes = writes_as _ _ old new (λ fault. is ∙ to result fault) (λ fault. from result (sym is ∙ fault)) writes
+written {A} answer result reply old new never is writes = writes_as _ _ old new (λ fault. is ∙ fault_said answer result fault) (λ fault. from result (sym is ∙ fault)) writes
   where
-    to : (r : Result A Refusal) → IsErrOf r refusals.DiskFault → replied answer r ≡ replies.Refused refusals.DiskFault
-    to (Ok x) fault = absurd (cc fault)
-    to (Err refusal) fault = let same : refusal ≡ refusals.DiskFault = cc fault in ap (λ (r : Refusal). replies.Refused r) same
-
     from : (r : Result A Refusal) → replied answer r ≡ replies.Refused refusals.DiskFault → IsErrOf r refusals.DiskFault
     from (Ok x) fault = absurd (never x fault)
     from (Err refusal) fault = cc fault
@@ -87,3 +90,12 @@ pub refused_by : {A : Type 0} {P : Type 0} (answer : A → Reply) (result : Resu
     → reply ≡ replied answer result → IfErr result (λ refusal. is_of_call refusal ≡ true → P) → IsRefused reply → P
 refused_by answer (Ok x) reply never is keeps refused = absurd (never x (subst IsRefused is refused))
 refused_by answer (Err refusal) reply never is keeps refused = keeps (subst IsRefused is refused)
+
+-- what it leaves of the newest copy, by its reply
+pub copied : {A : Type 0} (answer : A → Reply) (result : Result A Refusal) (reply : Reply) (old new : DiskState) → reply ≡ replied answer result
+    → LeavesCopy (IsErrOf result refusals.DiskFault) old new → LeavesCopy (reply ≡ replies.Refused refusals.DiskFault) old new
+copied answer result reply old new is copy = copy_as _ _ old new (λ fault. is ∙ fault_said answer result fault) copy
+
+-- a call that leaves the disk as it was writes no copy
+pub copy_same : {D : Type 0} (state : D → DiskState) (fault : Type 0) (old new : D) → new ≡ old → LeavesCopy fault (state old) (state new)
+copy_same {D} state fault old new same = subst (λ (d : D). LeavesCopy fault (state old) (state d)) (sym same) (copy_stays fault (state old))

@@ -9,12 +9,15 @@ use Rattle.std.specs.Prelude.{is_err}
 use Rattle.clfs_model.specs.declared.refusal.Refusal.TheVariants as refusals
 use Rattle.clfs_model.specs.declared.reply.Reply.TheVariants as replies
 use Rattle.clfs_physical.specs.declared.refusal.PhysicalRefusal.TheVariants as physical
+use Rattle.clfs_manager.specs.Copying.{CountsFiles, KeepsFiles}
 use Rattle.clfs_manager.specs.Flushing.{IsBroken}
+use Rattle.clfs_manager.specs.Written.{LeavesCopy}
 use Rattle.clfs_manager.proofs.AreasChange.{KeepsStorable, KeepsValid}
 use Rattle.clfs_manager.proofs.CopyingCalls.{crash_written}
 use Rattle.clfs_manager.proofs.Crashes.{crash_broken, crash_managed, never_ok}
 use Rattle.clfs_manager.proofs.FlushKeeps.{on_err, on_ok}
 use Rattle.clfs_manager.proofs.Intact.{writes_as, writes_failed, writes_fine, writes_nothing, writes_seen}
+use Rattle.clfs_manager.proofs.KeptFiles.{copy_faulted, copy_left, copy_of_call, copy_stays, counts_kept}
 use Rattle.clfs_manager.proofs.OwnRefusals.{refused_step, writes_refused}
 
 -- ---- the disk isn't called
@@ -33,6 +36,7 @@ call_stopped {A} {D} ways state log disk seen view managed broken client call re
       no_memory = λ want. absurd (cc want);
       stopped = λ _. refl;
       refused = λ _. refl;
+      copy = copy_stays _ (state disk);
     })
 
 -- the call is refused for what was asked
@@ -49,6 +53,7 @@ call_refused {A} {D} laws ways state log disk seen view managed unbroken client 
       no_memory = λ _. crash_managed laws.stands laws.by_file (state disk) log managed (bad_line 0) (laws.nothing s 0 managed.valid);
       stopped = λ _. refl;
       refused = λ _. refl;
+      copy = copy_stays _ (state disk);
     })
 
 -- nothing is to be changed
@@ -66,6 +71,7 @@ call_idle {A} {D} laws ways state log disk seen view managed unbroken client cal
       no_memory = λ want. absurd (cc want);
       stopped = λ _. refl;
       refused = tt;
+      copy = copy_stays _ (state disk);
     })
 
 -- ---- the disk was called
@@ -80,8 +86,9 @@ pub call_made : {A D : Type 0} (state : D → DiskState) (log after : Log) (disk
     → ((told : Bool) → Steps told log.state.value client call reply result after.state.value)
     → WritesDisk (IsErrOf result refusals.DiskFault) (state disk) (state new) → CrashSurvives (asks client call) seen.0 (state seen.1) (state new)
     → (IsErrOf result refusals.NoMemory → CrashSurvives (bad_line 0) seen.0 (state seen.1) (state new))
-    → IfErr result (λ given. is_of_call given ≡ true → new ≡ seen.1) → WritesAs state client call reply result seen (after.state.value, new)
-call_made {A} {D} state log after disk new seen view managed unbroken client call reply result step writes moments no_memory refused =
+    → IfErr result (λ given. is_of_call given ≡ true → new ≡ seen.1) → LeavesCopy (IsErrOf result refusals.DiskFault) (state seen.1) (state new)
+    → WritesAs state client call reply result seen (after.state.value, new)
+call_made {A} {D} state log after disk new seen view managed unbroken client call reply result step writes moments no_memory refused copy =
     let s : State = log.state.value in
     record {
       step = λ told. subst (λ (v : State × D). Steps told v.0 client call reply result after.state.value) view (step told);
@@ -90,6 +97,7 @@ call_made {A} {D} state log after disk new seen view managed unbroken client cal
       no_memory = no_memory;
       stopped = never_stopped s disk new seen view (managed.broken ∙ unbroken);
       refused = refused;
+      copy = copy;
     }
 
 -- and the call was done
@@ -97,8 +105,9 @@ pub call_done : {A D : Type 0} → GoesTheseWays → (state : D → DiskState) (
     → IsManaged (state disk) log → log.broken ≡ false → (client : ℕ) (call : Call) (reply : A → Reply) (value : A) → happened_of (reply value) ≡ Fine
     → refusal log.state.value client call ≡ None → reply value ≡ (answer log.state.value client call).reply
     → after.state.value ≡ (answer log.state.value client call).state → WritesDisk (IsErrOf {E = Refusal} (Ok value) refusals.DiskFault) (state seen.1) (state new)
-    → CrashSurvives (asks client call) seen.0 (state seen.1) (state new) → WritesAs state client call reply (Ok value) seen (after.state.value, new)
-call_done {A} {D} ways state log after disk new seen view managed unbroken client call reply value fine none replies_so leaves writes moments =
+    → CrashSurvives (asks client call) seen.0 (state seen.1) (state new) → LeavesCopy (IsErrOf {E = Refusal} (Ok value) refusals.DiskFault) (state seen.1) (state new)
+    → WritesAs state client call reply (Ok value) seen (after.state.value, new)
+call_done {A} {D} ways state log after disk new seen view managed unbroken client call reply value fine none replies_so leaves writes moments copy =
     let s : State = log.state.value in
     let whole : s.broken ≡ false = managed.broken ∙ unbroken in
     record {
@@ -110,6 +119,7 @@ call_done {A} {D} ways state log after disk new seen view managed unbroken clien
       no_memory = λ want. absurd (cc want);
       stopped = never_stopped s disk new seen view whole;
       refused = tt;
+      copy = copy;
     }
 
 -- and it failed
@@ -129,6 +139,7 @@ call_faulted {A} {D} ways state log after disk new seen view managed unbroken cl
       no_memory = λ want. absurd (cc want);
       stopped = never_stopped s disk new seen view whole;
       refused = λ own. absurd (cc own);
+      copy = copy_faulted (state seen.1) (state new) refl;
     }
 
 -- and memory ran out
@@ -136,8 +147,9 @@ pub call_starved : {A D : Type 0} → GoesTheseWays → (state : D → DiskState
     → IsManaged (state disk) log → log.broken ≡ false → (client : ℕ) (call : Call) (reply : A → Reply) → takes_memory call ≡ true
     → after.state.value ≡ log.state.value → WritesDisk (IsErrOf {T = A} (Err refusals.NoMemory) refusals.DiskFault) (state seen.1) (state new)
     → CrashSurvives (asks client call) seen.0 (state seen.1) (state new) → CrashSurvives (bad_line 0) seen.0 (state seen.1) (state new)
+    → LeavesCopy (IsErrOf {T = A} (Err refusals.NoMemory) refusals.DiskFault) (state seen.1) (state new)
     → WritesAs state client call reply (Err refusals.NoMemory) seen (after.state.value, new)
-call_starved {A} {D} ways state log after disk new seen view managed unbroken client call reply takes same writes moments before =
+call_starved {A} {D} ways state log after disk new seen view managed unbroken client call reply takes same writes moments before copy =
     let s : State = log.state.value in
     let whole : s.broken ≡ false = managed.broken ∙ unbroken in
     record {
@@ -149,6 +161,7 @@ call_starved {A} {D} ways state log after disk new seen view managed unbroken cl
       no_memory = λ _. before;
       stopped = never_stopped s disk new seen view whole;
       refused = λ own. absurd (cc own);
+      copy = copy;
     }
 
 -- the LSN below which all is on the disk, once all was written
@@ -189,15 +202,17 @@ pub stored_done : {A B D E : Type 0} → CallLaws → GoesTheseWays → KeepsVal
     → OnOk result (StoredAfter (state disk) (state new) log.state.value after.state.value log.physical after.physical)
     → StoredMeanwhile (state disk) (state new) log.state.value t log.physical → Later (state disk) (state new)
     → (IsSteady (state disk) → AreMade log.physical.image (state disk).files → IsOk result × ((state new).faults ≡ (state disk).faults))
+    → IsManaged (state new) after → after.broken ≡ log.broken → KeepsFiles (state disk) (state new) log.physical after.physical
     → WritesAs state client call reply (Ok value) seen (after.state.value, new)
 stored_done {A} {B} {D} {E} laws ways keeps state log after disk new seen view managed unbroken client call reply value fine t none replies_so leaves result ok is stored meanwhile
-    time steady =
+    time steady later same files =
     let s : State = log.state.value in
     call_done ways state log after disk new seen view managed unbroken client call reply value fine none replies_so (on_ok result ok is ∙ sym leaves)
     (writes_seen state (s, disk) seen view (IsErrOf {E = Refusal} (Ok value) refusals.DiskFault) (state new)
     (writes_fine (IsErrOf {E = Refusal} (Ok value) refusals.DiskFault) (state disk) (state new) s after.state.value log after (λ f. cc f) (managed.whole unbroken)
     (on_ok result ok stored) time (λ calm made. (steady calm made).1)))
     (crash_written laws ways keeps state log disk seen view managed unbroken client call t (state new) none leaves meanwhile)
+    (copy_of_call state log after disk new seen view managed unbroken later.whole time.nature _ (λ none. counts_kept (state disk) (state new) log after (same ∙ unbroken) files))
 
 -- and it failed
 pub stored_faulted : {A B D E : Type 0} → CallLaws → GoesTheseWays → KeepsValid → (state : D → DiskState) (log after : Log) (disk new : D) (seen : State × D)
@@ -226,6 +241,7 @@ pub record LogWritesAs {A D : Type 0} (state : D → DiskState) (client : ℕ) (
   pub moments : CrashLeavesSurvivor (asks client call) before.state.value (state old) (state new)
   pub no_memory : IsErrOf result refusals.NoMemory → CrashLeavesSurvivor (bad_line 0) before.state.value (state old) (state new)
   pub refused : IfErr result (λ refusal. is_of_call refusal ≡ true → new ≡ old)
+  pub files : (IsErrOf result refusals.DiskFault → ⊥) → CountsFiles (state old) (state new) before after
 
 -- what such a log answers, its manager answers
 pub call_of_log : {A D : Type 0} (state : D → DiskState) (log after : Log) (disk new : D) (seen : State × D) → (log.state.value, disk) ≡ seen
@@ -240,6 +256,7 @@ call_of_log {A} {D} state log after disk new seen view managed unbroken client c
       no_memory = λ want _. is.no_memory want;
       stopped = never_stopped s disk new (s, disk) refl (managed.broken ∙ unbroken);
       refused = is.refused;
+      copy = copy_left _ (state disk) (state new) log after managed unbroken is.left.whole is.writes.time.nature is.files;
     })
 
 -- and the manager is one still

@@ -12,6 +12,7 @@ pub mod Fetching
 pub mod Reading
 pub mod Settings
 pub mod Written
+pub mod Copying
 pub mod Crashes
 pub mod Changing
 pub mod Storing

@@ -7,6 +7,7 @@ use Rattle.clfs_model.specs.Run.{Request}
 use Rattle.clfs_model.specs.Survivors.{Survives}
 use Rattle.clfs_physical.specs.declared.refusal.PhysicalRefusal.{PhysicalRefusal}
 use Rattle.clfs_physical.specs.declared.refusal.PhysicalRefusal.TheVariants.{DiskFault, NoMemory}
+use Rattle.clfs_manager.specs.Copying.{CountsFiles}
 use Rattle.clfs_manager.specs.Crashes.{CrashLeavesSurvivor}
 use Rattle.clfs_manager.specs.Flushing.{IsBroken}
 use Rattle.clfs_manager.specs.Written.{IsIntact, WritesDisk}
@@ -34,3 +35,4 @@ pub record ResizesLog {A : Type 0} (result : Result A PhysicalRefusal) (further 
   pub writes : WritesDisk (IsErrOf result DiskFault) old new
   pub moments : (asked : Request) (s : State) → Survives asked s (cut before.state.value) → Survives asked s (cut further) → CrashLeavesSurvivor asked s old new
   pub old_size : IsErrOf result NoMemory → (asked : Request) (s : State) → Survives asked s (cut before.state.value) → CrashLeavesSurvivor asked s old new
+  pub files : (IsErrOf result DiskFault → ⊥) → CountsFiles old new before after

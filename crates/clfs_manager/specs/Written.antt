@@ -1,5 +1,6 @@
 -- How calls that write leave a log and its disk.
-use Rattle.std.specs.Prelude.{◌≡◌, ℕ, false, Result, Ok, OnOk}
+use Rattle.std.specs.Prelude.{◌≡◌, ◌⊎◌, ℕ, ◌*◌, ◌<◌, ◌≤◌, false, length, Result, Ok, OnOk}
+use Rattle.clfs_lsn.specs.Format.{sector_bytes}
 use Rattle.clfs_areas.specs.Table.{AreaTable}
 use Rattle.clfs_base.specs.declared.image.BaseImage.{BaseImage}
 use Rattle.clfs_base.specs.Layout.{version_two}
@@ -54,3 +55,18 @@ pub record HaveCurrentCopy (files : Files) : Type 0 where
 -- Once a call that writes a copy was answered, over a disk that tells what it holds, the newest copy is of the second version.
 abbrev pub CopyIsCurrent : {A E : Type 0} → Result A E → DiskState → Type 0
 CopyIsCurrent result disk = OnOk result (TellsContents disk → HaveCurrentCopy disk.files)
+
+-- The newest base copy that files have is the one of before, or one of the second version.
+abbrev pub CopyStaysOrIsCurrent : Files → Files → Type 0
+CopyStaysOrIsCurrent old new = (newest_of (new 0) ≡ newest_of (old 0)) ⊎ HaveCurrentCopy new
+
+-- Each file that the newest copy counts as made, and the one of before didn't, is at full length.
+abbrev pub MadeFilesAreWhole : Files → Files → Type 0
+MadeFilesAreWhole old new = (slot later : ℕ) (before after : BaseImage) → newest_of (old 0) ≡ Ok (slot, before) → newest_of (new 0) ≡ Ok (later, after)
+    → (file : ℕ) → before.files_made < file → file ≤ after.files_made → sector_bytes * before.container_sectors ≤ length (new file)
+
+-- What a call that may write a copy, or none, leaves of the newest one, and of the files that it made. Nothing is said of a call that is to answer a
+-- fault, nor over a disk that doesn't tell what it holds.
+pub record LeavesCopy (fault : Type 0) (old new : DiskState) : Type 0 where
+  pub current : (fault → ⊥) → TellsContents old → CopyStaysOrIsCurrent old.files new.files
+  pub made : (fault → ⊥) → TellsContents old → MadeFilesAreWhole old.files new.files

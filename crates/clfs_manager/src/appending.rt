@@ -9,6 +9,7 @@ ghost use Rattle.clfs_model.specs.declared.reply.Reply.TheVariants as replies;
 ghost use Rattle.clfs_areas.specs.Table.{area_at};
 ghost use Rattle.clfs_manager.specs.Calls.{Steps, WritesAs};
 ghost use Rattle.clfs_manager.specs.Changing.{ChangesLog, GoesThrough};
+ghost use Rattle.clfs_manager.specs.Copying.{CountsFiles, KeepsFiles};
 ghost use Rattle.clfs_manager.specs.Crashes.{CrashLeavesSurvivor};
 ghost use Rattle.clfs_manager.specs.Fetching.{IsLeft};
 ghost use Rattle.clfs_manager.specs.Memory.{ChangesAreas, IsSound};
@@ -94,6 +95,7 @@ impl Log {
         ensures change { GoesThrough (IsOpenWith self.old.areas) result (ready_stages self.old.state.value (length bytes.now))
             (put self.old.state.value (unplaced fields.now bytes.now)) (D.state disk.old) (D.state disk.new) self.new }
         ensures quiet { making_ready_writes self.old.state.value (length bytes.now) ≡ false → IsOk result × (disk.new ≡ disk.old) }
+        ensures files { OnOk result (KeepsFiles (D.state disk.old) (D.state disk.new) self.old.physical self.new.physical) }
     {
         logs_are_made_ready();
         records_are_put();
@@ -107,6 +109,7 @@ impl Log {
         requires intact { IsIntact (D.state disk.old) self.old }
         ensures change { ChangesLog IsIntact result (self.old.state.value ∷ []) (seal_if asked self.old.state.value) (D.state disk.old) (D.state disk.new) self.new }
         ensures quiet { (asked ≡ true → fills_buffers self.old.state.value ≡ false) → IsOk result × (disk.new ≡ disk.old) }
+        ensures files { OnOk result (KeepsFiles (D.state disk.old) (D.state disk.new) self.old.physical self.new.physical) }
     {
         logs_are_copies_and_blocks();
         if asked {
@@ -120,6 +123,7 @@ impl Log {
         requires intact { IsIntact (D.state disk.old) self.old }
         ensures change { ChangesLog IsIntact result (self.old.state.value ∷ []) (flush_if asked self.old.state.value) (D.state disk.old) (D.state disk.new) self.new }
         ensures quiet { asked ≡ false → IsOk result × (disk.new ≡ disk.old) }
+        ensures files { OnOk result (KeepsFiles (D.state disk.old) (D.state disk.new) self.old.physical self.new.physical) }
     {
         logs_are_copies_and_blocks();
         if asked {
@@ -134,6 +138,7 @@ impl Log {
         ensures change { ChangesLog IsIntact result (self.old.state.value ∷ seal_if seal self.old.state.value ∷ [])
             (flush_if flush (seal_if seal self.old.state.value)) (D.state disk.old) (D.state disk.new) self.new }
         ensures quiet { (seal ≡ true → fills_buffers self.old.state.value ≡ false) → flush ≡ false → IsOk result × (disk.new ≡ disk.old) }
+        ensures files { OnOk result (KeepsFiles (D.state disk.old) (D.state disk.new) self.old.physical self.new.physical) }
     {
         self.seal_if(disk, seal)?;
         self.flush_if(disk, flush)
@@ -165,6 +170,7 @@ impl Log {
         ensures quiet { let area = area_at place self.old.areas.areas in
             making_ready_writes (spend_if reserved area (length draft.now.bytes) self.old.state.value) (length draft.now.bytes) ≡ false
             → IsOk result × (disk.new ≡ disk.old) }
+        ensures files { OnOk result (KeepsFiles (D.state disk.old) (D.state disk.new) self.old.physical self.new.physical) }
     {
         records_are_put();
         let fields = plain_fields(self.areas.area(place).stream, draft);
@@ -200,6 +206,7 @@ impl Log {
             making_ready_writes t (length draft.now.bytes) ≡ false
             → (draft.now.seal ≡ true → fills_buffers (hold_sizes area sizes.now (put t (plain_record area draft.now))) ≡ false) → draft.now.flush ≡ false
             → IsOk result × (disk.new ≡ disk.old) }
+        ensures files { OnOk result (KeepsFiles (D.state disk.old) (D.state disk.new) self.old.physical self.new.physical) }
     {
         areas_hold_sectors();
         let lsn = self.put_draft(disk, place, draft, reserved)?;
@@ -249,6 +256,7 @@ impl Log {
         ensures moments { CrashLeavesSurvivor (asks client (calls.Append area draft.now reserved sizes.now)) self.old.state.value (D.state disk.old) (D.state disk.new) }
         ensures no_memory { IsErrOf result Refusal.NoMemory → CrashLeavesSurvivor (bad_line 0) self.old.state.value (D.state disk.old) (D.state disk.new) }
         ensures refused { IfErr result (λ refusal. is_of_call refusal ≡ true → disk.new ≡ disk.old) }
+        ensures files { (IsErrOf result Refusal.DiskFault → ⊥) → CountsFiles (D.state disk.old) (D.state disk.new) self.old self.new }
     {
         refusals_are_the_calls_own();
         ways_of_a_step();

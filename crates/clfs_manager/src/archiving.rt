@@ -5,6 +5,7 @@ ghost use Rattle.clfs_manager.specs.Machine.{archiving, calls_disk, container_of
 ghost use Rattle.clfs_model.specs.declared.call.Call.TheVariants as calls;
 ghost use Rattle.clfs_model.specs.declared.reply.Reply.TheVariants as replies;
 ghost use Rattle.clfs_manager.specs.Calls.{WritesAs};
+ghost use Rattle.clfs_manager.specs.Copying.{KeepsFiles};
 ghost use Rattle.clfs_manager.specs.Memory.{HasForgotten, IsSound};
 ghost use Rattle.clfs_manager.specs.Settings.{KeepsQueue, KeepsTables, archive_change, with_archive};
 ghost use Rattle.clfs_manager.specs.Storing.{StoresState};
@@ -75,6 +76,7 @@ impl Log {
         ensures change { StoresState result (with_archive tail self.old.state.value) (D.state disk.old) (D.state disk.new) self.old self.new }
         ensures same { OnOk result (KeepsTables self.old self.new) }
         ensures current { OnOk result (IsCurrent self.new.physical.image) }
+        ensures files { OnOk result (KeepsFiles (D.state disk.old) (D.state disk.new) self.old.physical self.new.physical) }
     {
         settings_leave_the_records();
         low_containers_are_left_out();
@@ -103,6 +105,7 @@ impl Log {
         ensures forgotten { OnOk result (HasForgotten self.new.state.value self.new) }
         ensures same { OnOk result (KeepsQueue self.old self.new) }
         ensures current { OnOk result (IsCurrent self.new.physical.image) }
+        ensures files { OnOk result (KeepsFiles (D.state disk.old) (D.state disk.new) self.old.physical self.new.physical) }
     {
         self.store_archive(disk, tail)?;
         self.forget_low();

@@ -8,6 +8,7 @@ ghost use Rattle.clfs_model.specs.declared.reply.Reply.TheVariants as replies;
 ghost use Rattle.clfs_manager.specs.Base.{KeepsAllButTables, with_base};
 ghost use Rattle.clfs_manager.specs.Calls.{WritesAs};
 ghost use Rattle.clfs_manager.specs.Changing.{ChangesLog};
+ghost use Rattle.clfs_manager.specs.Copying.{KeepsFiles};
 ghost use Rattle.clfs_manager.specs.Flushing.{IsBroken};
 ghost use Rattle.clfs_manager.specs.Memory.{HasForgotten, IsSound};
 ghost use Rattle.clfs_manager.specs.Putting.{KeepsRoom};
@@ -65,6 +66,7 @@ impl Log {
         ensures change { ChangesLog IsYetToForget result (self.old.state.value ∷ []) (with_base stream base self.old.state.value) (D.state disk.old) (D.state disk.new) self.new }
         ensures broken { OnErr result (IsBroken self.old self.new) }
         ensures current { OnOk result (IsCurrent self.new.physical.image) }
+        ensures files { OnOk result (KeepsFiles (D.state disk.old) (D.state disk.new) self.old.physical self.new.physical) }
     {
         bases_of_rows_move();
         low_containers_are_left_out();
@@ -98,6 +100,7 @@ impl Log {
             (with_base stream base (flush self.old.state.value)) (D.state disk.old) (D.state disk.new) self.new }
         ensures broken { OnErr result (IsBroken self.old self.new) }
         ensures current { OnOk result (IsCurrent self.new.physical.image) }
+        ensures files { OnOk result (KeepsFiles (D.state disk.old) (D.state disk.new) self.old.physical self.new.physical) }
     {
         let faulted = broken(&self.state);
         self.write_all(disk)?;

@@ -30,6 +30,7 @@ mod appending;
 mod archiving;
 mod areas;
 mod base;
+mod carried;
 mod fetching;
 mod flushing;
 mod followed;

@@ -6,6 +6,7 @@ ghost use Rattle.clfs_model.specs.declared.call.Call.TheVariants as calls;
 ghost use Rattle.clfs_model.specs.declared.reply.Reply.TheVariants as replies;
 ghost use Rattle.clfs_tables.specs.Tables.{HasSame};
 ghost use Rattle.clfs_manager.specs.Calls.{WritesAs};
+ghost use Rattle.clfs_manager.specs.Copying.{CountsFiles};
 ghost use Rattle.clfs_manager.specs.Crashes.{CrashLeavesSurvivor};
 ghost use Rattle.clfs_manager.specs.Streams.{IsNotAdded, with_stream};
 ghost use Rattle.clfs_manager.specs.Written.{IsIntact, WritesDisk, CopyIsCurrent, IsCurrent};
@@ -83,6 +84,7 @@ impl Log {
             → Survives asked s (cut (with_stream name.now self.old.state.value)) → CrashLeavesSurvivor asked s (D.state disk.old) (D.state disk.new) }
         ensures no_memory { IsErrOf result Refusal.NoMemory → disk.new ≡ disk.old }
         ensures current { OnOk result (IsCurrent self.new.physical.image) }
+        ensures files { (IsErrOf result Refusal.DiskFault → ⊥) → CountsFiles (D.state disk.old) (D.state disk.new) self.old self.new }
     {
         streams_come_last();
         low_containers_are_left_out();

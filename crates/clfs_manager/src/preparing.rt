@@ -2,6 +2,7 @@
 // memory leaves the log as it was.
 ghost use Rattle.std.specs.Prelude.{◌≡◌, ◌<◌, ◌^◌, IfErr, IsErrOf, IsSome, OnOk, false};
 ghost use Rattle.clfs_manager.specs.Machine.{cut, grown, grows, Request, State, stream_at, Survives};
+ghost use Rattle.clfs_manager.specs.Copying.{CountsFiles};
 ghost use Rattle.clfs_manager.specs.Crashes.{CrashLeavesSurvivor};
 ghost use Rattle.clfs_manager.specs.Fetching.{IsLeft};
 ghost use Rattle.clfs_manager.specs.Preparing.{LeavesOf};
@@ -33,6 +34,7 @@ impl Log {
             → Survives asked s (cut (grown self.old.state.value need)) → CrashLeavesSurvivor asked s (D.state disk.old) (D.state disk.new) }
         ensures no_memory { IsErrOf result Refusal.NoMemory → (asked : Request) (s : State) → Survives asked s (cut self.old.state.value)
             → CrashLeavesSurvivor asked s (D.state disk.old) (D.state disk.new) }
+        ensures files { (IsErrOf result Refusal.DiskFault → ⊥) → CountsFiles (D.state disk.old) (D.state disk.new) self.old self.new }
     {
         logs_are_copies_and_blocks();
         self.take_memory(stream)?;

@@ -5,6 +5,7 @@ ghost use Rattle.clfs_manager.specs.Machine.{begins_here, flush, head_of, hold, 
 ghost use Rattle.clfs_queue.specs.Queued.{placing};
 ghost use Rattle.clfs_record.specs.Fields.{placed_record};
 ghost use Rattle.clfs_manager.specs.Changing.{ChangesLog, GoesThrough};
+ghost use Rattle.clfs_manager.specs.Copying.{KeepsFiles};
 ghost use Rattle.clfs_manager.specs.Crashes.{StoredMeanwhile};
 ghost use Rattle.clfs_manager.specs.Flushing.{IsBroken, StoredAfter};
 ghost use Rattle.clfs_manager.specs.Memory.{Holds, IsSound};
@@ -83,6 +84,7 @@ impl Log {
         ensures room { OnOk result (KeepsRoom 1 self.old self.new) }
         ensures broken { OnErr result (IsBroken self.old self.new) }
         ensures quiet { is_pending self.old.state.value ≡ false → IsOk result × (disk.new ≡ disk.old) }
+        ensures files { OnOk result (KeepsFiles (D.state disk.old) (D.state disk.new) self.old.physical self.new.physical) }
     {
         seals_and_flushes_keep_a_log();
         logs_are_copies_and_blocks();
@@ -97,6 +99,7 @@ impl Log {
         ensures room { OnOk result (KeepsRoom 1 self.old self.new) }
         ensures broken { OnErr result (IsBroken self.old self.new) }
         ensures quiet { sealing_writes self.old.state.value ≡ false → IsOk result × (disk.new ≡ disk.old) }
+        ensures files { OnOk result (KeepsFiles (D.state disk.old) (D.state disk.new) self.old.physical self.new.physical) }
     {
         seals_and_flushes_keep_a_log();
         logs_are_copies_and_blocks();
@@ -122,6 +125,7 @@ impl Log {
         ensures same { self.new ≡ record self.old { physical = self.new.physical } }
         ensures calls { CallsDisk result self.old.physical.image (D.state disk.old) (D.state disk.new) }
         ensures current { OnOk result (IsCurrent self.new.physical.image) }
+        ensures files { OnOk result (KeepsFiles (D.state disk.old) (D.state disk.new) self.old.physical self.new.physical) }
     {
         settings_leave_the_records();
         low_containers_are_left_out();
@@ -139,6 +143,7 @@ impl Log {
         ensures change { ChangesLog IsYetToForget result (self.old.state.value ∷ []) (turned self.old.state.value) (D.state disk.old) (D.state disk.new) self.new }
         ensures room { OnOk result (KeepsRoom 0 self.old self.new) }
         ensures broken { OnErr result (IsBroken self.old self.new) }
+        ensures files { OnOk result (KeepsFiles (D.state disk.old) (D.state disk.new) self.old.physical self.new.physical) }
     {
         ends_of_blocks_go_on();
         logs_are_copies_and_blocks();
@@ -158,6 +163,7 @@ impl Log {
         ensures change { ChangesLog IsIntact result (self.old.state.value ∷ flush self.old.state.value ∷ [])
             (turned (flush self.old.state.value)) (D.state disk.old) (D.state disk.new) self.new }
         ensures room { OnOk result (KeepsRoom 1 self.old self.new) }
+        ensures files { OnOk result (KeepsFiles (D.state disk.old) (D.state disk.new) self.old.physical self.new.physical) }
     {
         self.write_all(disk)?;
         self.turn(disk)?;
@@ -173,6 +179,7 @@ impl Log {
         ensures change { GoesThrough IsIntact result (ready_stages self.old.state.value len) (readied self.old.state.value len) (D.state disk.old) (D.state disk.new) self.new }
         ensures room { OnOk result (KeepsRoom 1 self.old self.new) }
         ensures quiet { making_ready_writes self.old.state.value len ≡ false → IsOk result × (disk.new ≡ disk.old) }
+        ensures files { OnOk result (KeepsFiles (D.state disk.old) (D.state disk.new) self.old.physical self.new.physical) }
     {
         logs_are_made_ready();
         seals_and_flushes_keep_a_log();

@@ -1,7 +1,7 @@
 // Writing a restart area: the newest data by which the owner of a stream restarts, and with it, in one step, the new base of the stream. The restart area
 // is a record, which joins the log as any other, and then the log is flushed. Its record carries the new base, so that a crash leaves both of them or
 // none; no base copy is written. Until the flush is done the base stays where it was, in memory too.
-ghost use Rattle.std.specs.Prelude.{◌≡◌, ◌<◌, ◌≤◌, ◌^◌, ◌==◌, ◌∷◌, ◌++◌, ℕ, Bool, List, [], None, Some, false, true, length, IfErr, IfOk, IsErrOf, IsSome, OnErr};
+ghost use Rattle.std.specs.Prelude.{◌≡◌, ◌<◌, ◌≤◌, ◌^◌, ◌==◌, ◌∷◌, ◌++◌, ℕ, Bool, List, [], None, Some, false, true, length, IfErr, IfOk, IsErrOf, IsSome, OnErr, OnOk};
 ghost use Rattle.clfs_manager.specs.Machine.{Area, asks, bad_line, flush, is_of_call, IsClient, MayMove, next_lsn, null_lsn, put, ready_stages, rebased, refusal, restart_record, restart_refusal, spend_if, spent_of, stream_at, TakesThrough};
 ghost use Rattle.clfs_model.specs.declared.call.Call.TheVariants as calls;
 ghost use Rattle.clfs_model.specs.declared.reply.Reply.TheVariants as replies;
@@ -9,6 +9,7 @@ ghost use Rattle.clfs_areas.specs.Table.{area_at};
 ghost use Rattle.clfs_tables.specs.Tables.{IsNumber, base_in};
 ghost use Rattle.clfs_manager.specs.Calls.{Steps, WritesAs};
 ghost use Rattle.clfs_manager.specs.Changing.{ChangesLog, GoesThrough};
+ghost use Rattle.clfs_manager.specs.Copying.{CountsFiles, KeepsFiles};
 ghost use Rattle.clfs_manager.specs.Crashes.{CrashLeavesSurvivor};
 ghost use Rattle.clfs_manager.specs.Fetching.{IsLeft};
 ghost use Rattle.clfs_manager.specs.Flushing.{IsBroken};
@@ -84,6 +85,7 @@ impl Log {
         requires may { MayFinish self.old.state.value stream base }
         ensures change { ChangesLog IsYetToForget result (self.old.state.value ∷ []) (rebased stream base (flush self.old.state.value)) (D.state disk.old) (D.state disk.new) self.new }
         ensures broken { OnErr result (IsBroken self.old self.new) }
+        ensures files { OnOk result (KeepsFiles (D.state disk.old) (D.state disk.new) self.old.physical self.new.physical) }
     {
         seals_and_flushes_keep_a_log();
         groups_come_behind_the_last_block();
@@ -107,6 +109,7 @@ impl Log {
         requires may { MayFinish self.old.state.value stream base }
         ensures change { ChangesLog IsIntact result (self.old.state.value ∷ []) (rebased stream base (flush self.old.state.value)) (D.state disk.old) (D.state disk.new) self.new }
         ensures broken { OnErr result (IsBroken self.old self.new) }
+        ensures files { OnOk result (KeepsFiles (D.state disk.old) (D.state disk.new) self.old.physical self.new.physical) }
     {
         self.store_restart(disk, stream, base)?;
         self.forget_low();
@@ -138,6 +141,7 @@ impl Log {
             let joined = put u (unplaced fields.now bytes.now) in
             let last = rebased fields.now.stream fields.now.new_base (flush joined) in
             GoesThrough IsIntact result (ready_stages u (length bytes.now) ++ joined ∷ last ∷ []) last (D.state disk.old) (D.state disk.new) self.new }
+        ensures files { OnOk result (KeepsFiles (D.state disk.old) (D.state disk.new) self.old.physical self.new.physical) }
     {
         records_are_put();
         logs_are_made_ready();
@@ -188,6 +192,7 @@ impl Log {
         ensures moments { CrashLeavesSurvivor (asks client (calls.WriteRestart area bytes.now base reserved)) self.old.state.value (D.state disk.old) (D.state disk.new) }
         ensures no_memory { IsErrOf result Refusal.NoMemory → CrashLeavesSurvivor (bad_line 0) self.old.state.value (D.state disk.old) (D.state disk.new) }
         ensures refused { IfErr result (λ refusal. is_of_call refusal ≡ true → disk.new ≡ disk.old) }
+        ensures files { (IsErrOf result Refusal.DiskFault → ⊥) → CountsFiles (D.state disk.old) (D.state disk.new) self.old self.new }
     {
         refusals_are_the_calls_own();
         ways_of_a_step();

@@ -5,6 +5,7 @@ ghost use Rattle.clfs_model.specs.declared.call.Call.TheVariants as calls;
 ghost use Rattle.clfs_model.specs.declared.reply.Reply.TheVariants as replies;
 ghost use Rattle.clfs_model.specs.Policies.{is_installed, policy_refusal, with_policy, without_policy};
 ghost use Rattle.clfs_manager.specs.Calls.{WritesAs};
+ghost use Rattle.clfs_manager.specs.Copying.{KeepsFiles};
 ghost use Rattle.clfs_policy.specs.Ranges.{AreAllowed};
 ghost use Rattle.clfs_manager.specs.Memory.{IsSound};
 ghost use Rattle.clfs_manager.specs.Settings.{KeepsTables, change_to, with_policies};
@@ -80,6 +81,7 @@ impl Log {
         ensures change { StoresState result (with_policies policies self.old.state.value) (D.state disk.old) (D.state disk.new) self.old self.new }
         ensures same { OnOk result (KeepsTables self.old self.new) }
         ensures current { OnOk result (IsCurrent self.new.physical.image) }
+        ensures files { OnOk result (KeepsFiles (D.state disk.old) (D.state disk.new) self.old.physical self.new.physical) }
     {
         settings_leave_the_records();
         low_containers_are_left_out();

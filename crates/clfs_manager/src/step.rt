@@ -8,7 +8,7 @@ ghost use Rattle.clfs_manager.specs.Machine.{asks, bad_line, calls_disk, happene
 ghost use Rattle.clfs_manager.specs.Calls.{IsRefused, IsSmall};
 ghost use Rattle.clfs_manager.specs.Crashes.{CrashSurvives};
 ghost use Rattle.clfs_manager.specs.Reading.{TellsBlock};
-ghost use Rattle.clfs_manager.specs.Written.{WritesDisk};
+ghost use Rattle.clfs_manager.specs.Written.{LeavesCopy, WritesDisk};
 
 use crate::manager::Manager;
 use crate::replies::{done, found, reply_of};
@@ -45,6 +45,9 @@ impl<D: Disk> Manager<D> {
 
         // Where memory ran out, a crash at any moment of the call leaves the flushed part of the log, which is what survives a bad line.
         ensures no_memory { result ≡ replies.Refused refusals.NoMemory → CrashSurvives (bad_line 0) self.old.0 (D.state self.old.1) (D.state self.new.1) }
+
+        // A base copy that the call writes is of the second version, and the files that it makes are at full length.
+        ensures copy { LeavesCopy (result ≡ replies.Refused refusals.DiskFault) (D.state self.old.1) (D.state self.new.1) }
     {
         self.stored();
         match call {

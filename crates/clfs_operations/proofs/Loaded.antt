@@ -10,7 +10,7 @@ use Rattle.clfs_model.specs.Happened.{happened_of}
 use Rattle.clfs_model.specs.Run.{Request, Run, bad_line}
 use Rattle.clfs_recover.specs.Files.{AreWholeFiles}
 use Rattle.clfs_manager.specs.Crashes.{HoldSurvivor}
-use Rattle.clfs_operations.specs.Answered.{requests_of, AnswersAll, AnswersLines, AnswersInPart, IsAnswered, IsAnsweredInPart}
+use Rattle.clfs_operations.specs.Answered.{requests_of, AnswersAll, AnswersLines, AnswersInPart, IsAnswered, IsAnsweredInPart, RepliesTellPlaces}
 use Rattle.clfs_operations.specs.Crashed.{IsLeftByRun, nothing_asked}
 use Rattle.clfs_operations.specs.Loaded.{IsLoaded, IsKeptOn}
 use Rattle.clfs_operations.specs.Told.{has_fault}
@@ -40,6 +40,7 @@ module _ (buffers : ℕ) (old mid new : DiskState) (s t : State) (loaded : IsLoa
     time = later_then old mid new (unchanged_later old mid loaded.time) all.time;
     cause = λ some. let rose = all.cause some in omega (arith, rose, loaded.time.faults);
     damage = λ told. all.damage (tells_mid told);
+    places = subst (λ (n : Nature). RepliesTellPlaces n.tells_contents s requests answers t) loaded.time.nature all.places;
     unbroken = λ told. all.unbroken (tells_mid told);
     whole = λ told none are. all.whole (tells_mid told) none (whole_same old.files mid.files loaded.same are);
     faultless = all.faultless;

@@ -1,6 +1,6 @@
 -- A call that only reads a disk, as one that may write it.
-use Rattle.std.proofs.Common.{◌≡◌, ℕ, true, length, refl, ap, ◌∙◌, sym, Ok, Err, arith}
-use Rattle.std.specs.Prelude.{Result, IsErrOf}
+use Rattle.std.proofs.Common.{◌≡◌, ℕ, true, length, refl, ap, subst, ◌∙◌, sym, Ok, Err, arith}
+use Rattle.std.specs.Prelude.{Result, IsErrOf, IfErr}
 use Rattle.clfs_disk.specs.Files.{Files, Unchanged}
 use Rattle.clfs_disk.specs.State.{DiskState, TellsContents, Passes, Later}
 use Rattle.clfs_base.specs.Slots.{newest_of}
@@ -16,6 +16,7 @@ use Rattle.clfs_recover.specs.Files.{AreWholeFiles}
 use Rattle.clfs_manager.specs.Calls.{replied}
 use Rattle.clfs_manager.specs.Crashes.{CrashSurvives}
 use Rattle.clfs_manager.specs.Fetching.{OnlyReads}
+use Rattle.clfs_manager.specs.Reopening.{TellsPlace}
 use Rattle.clfs_operations.specs.Answered.{AnswersOne}
 use Rattle.clfs_operations.specs.Crashed.{StandsStill}
 use Rattle.clfs_operations.proofs.Crashing.{OpeningBreaks, OpeningStaysBroken, faultless_opening}
@@ -57,17 +58,22 @@ answer_faulted : (result : Result ℕ Refusal) → replied replies.Flushed resul
 answer_faulted (Ok lsn) e = absurd (cc e)
 answer_faulted (Err refusal) e = cc e
 
+answer_placed : (result : Result ℕ Refusal) → IfErr result TellsPlace → (refusal : Refusal) → replied replies.Flushed result ≡ replies.Refused refusal → TellsPlace refusal
+answer_placed (Ok lsn) place refusal e = absurd (cc e)
+answer_placed (Err given) place refusal e = let same : given ≡ refusal = cc e in subst TellsPlace same place
+
 -- a log that was opened again
 pub reopened_one : (s : State) (old : DiskState) (client : ℕ) (result : Result ℕ Refusal) (reply : Reply) (t : State) (new : DiskState) → reply ≡ replied replies.Flushed result
-    → ReopenStep old.nature.tells_contents s (happened_of (replied replies.Flushed result)) (replied replies.Flushed result) t → OnlyReads result old new
+    → ReopenStep old.nature.tells_contents s (happened_of (replied replies.Flushed result)) (replied replies.Flushed result) t → OnlyReads result old new → IfErr result TellsPlace
     → CrashSurvives (reopens client) s old new → (s.broken ≡ true → StandsStill old new) → OpeningBreaks → OpeningStaysBroken
     → AnswersOne s old (reopens client) reply t new
-reopened_one s old client result reply t new is step reads crash stopped breaks stays = record {
+reopened_one s old client result reply t new is step reads place crash stopped breaks stays = record {
   crash = crash;
   stopped = stopped;
   faultless = rw is (faultless_opening breaks stays old.nature.tells_contents s (replied replies.Flushed result) t step);
   step = rw is step;
   damage = λ told damaged. answer_damaged result old new reads told (rw is at damaged);
+  place = λ refusal told. answer_placed result place refusal (sym is ∙ told);
   writes = record {
     time = unchanged_later old new reads.time;
     cause = λ fault. reads.cause (answer_faulted result (sym is ∙ fault));
@@ -85,6 +91,7 @@ bad_one s disk at crash = record {
   faultless = λ whole. (whole, λ fault. cc fault);
   step = (refl, refl);
   damage = λ told damaged. damaged;
+  place = λ refusal told. tt;
   writes = record {
     time = stands_still disk;
     cause = λ fault. absurd (cc fault);

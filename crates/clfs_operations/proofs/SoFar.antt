@@ -13,7 +13,7 @@ use Rattle.clfs_model.specs.declared.state.State.{State}
 use Rattle.clfs_model.specs.Happened.{happened_of}
 use Rattle.clfs_model.specs.Run.{Request, RequestStep, Run}
 use Rattle.clfs_model.specs.Step.{IsDamaged}
-use Rattle.clfs_operations.specs.Answered.{AnswersOne, AnswersAll}
+use Rattle.clfs_operations.specs.Answered.{AnswersOne, AnswersAll, RepliesTellPlaces, TellsItsPlace}
 use Rattle.clfs_operations.specs.Crashed.{CrashLeavesRun, nothing_asked}
 use Rattle.clfs_operations.specs.Told.{tells_fault, tells_damage, tells_broken, has_fault}
 use Rattle.clfs_operations.proofs.Crashing.{left_more}
@@ -100,6 +100,17 @@ run_more told s (x ∷ requests) [] mid request reply t run step = absurd run
 run_more told s (x ∷ requests) (y ∷ answers) mid request reply t run step =
     (run.0, (run.1.0, run_more told run.0 requests answers mid request reply t run.1.1 step))
 
+-- replies that tell their places, and one more
+places_more : (told : Bool) (s : State) (requests : List Request) (answers : List Reply) (mid : State) (request : Request) (reply : Reply) (t : State)
+    → RepliesTellPlaces told s requests answers mid → RequestStep told mid request (happened_of reply) reply t → TellsItsPlace mid request reply
+    → RepliesTellPlaces told s (requests ++ request ∷ []) (answers ++ reply ∷ []) t
+places_more told s [] [] mid request reply t all step place =
+    (t, (subst (λ (m : State). RequestStep told m request (happened_of reply) reply t) all step, (subst (λ (m : State). TellsItsPlace m request reply) all place, refl)))
+places_more told s [] (y ∷ answers) mid request reply t all step place = absurd all
+places_more told s (x ∷ requests) [] mid request reply t all step place = absurd all
+places_more told s (x ∷ requests) (y ∷ answers) mid request reply t all step place =
+    (all.0, (all.1.0, (all.1.1.0, places_more told all.0 requests answers mid request reply t all.1.1.1 step place)))
+
 -- ---- requests that were answered
 
 -- none yet
@@ -109,6 +120,7 @@ none_answered s disk = record {
   time = stands_still disk;
   cause = λ e. absurd (cc e);
   damage = λ told. refl;
+  places = refl;
   unbroken = λ told whole none. (whole, refl);
   whole = λ told none are. are;
   steady = λ steady told are. refl;
@@ -125,6 +137,8 @@ one_answered stay s old requests answers mid between request reply t new all one
   time = later_then old between new all.time one.writes.time;
   cause = λ some. raised (one_of tells_fault answers reply some);
   damage = λ told. none_more tells_damage answers reply (all.damage told) (no_damage_is reply (one.damage (tells_on told)));
+  places = places_more old.nature.tells_contents s requests answers mid request reply t all.places
+      (subst (λ (n : Nature). RequestStep n.tells_contents mid request (happened_of reply) reply t) all.time.nature one.step) one.place;
   unbroken = λ told whole none.
       let before = neither tells_fault answers reply none in
       let was = all.unbroken told whole before.0 in

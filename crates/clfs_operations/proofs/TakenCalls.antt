@@ -18,7 +18,7 @@ use Rattle.clfs_recover.specs.Files.{AreWholeFiles}
 use Rattle.clfs_recover.specs.Whole.{are_whole}
 use Rattle.clfs_manager.specs.Crashes.{HoldSurvivor}
 use Rattle.clfs_shared.specs.Crashes.{IsLeftByEntries, since}
-use Rattle.clfs_shared.specs.Journal.{is_fault, is_damage, has_fault, has_damage}
+use Rattle.clfs_shared.specs.Journal.{is_fault, is_damage, has_fault, has_damage, EntriesTellPlaces}
 use Rattle.clfs_shared.specs.Reached.{opening_of, IsReached}
 use Rattle.clfs_operations.specs.Raced.{HasTaken, is_any_broken}
 use Rattle.clfs_operations.specs.Told.{tells_broken}
@@ -117,6 +117,7 @@ module _ (buffers : ℕ) (old mid new : DiskState) (s t : State) (loaded : IsLoa
     legal = subst (λ (n : Nature). IsLegal n.tells_contents journal s t) loaded.time.nature reached.legal;
     cause = λ some. let rose = reached.fault some in omega (arith, rose, loaded.time.faults);
     damage = λ told. reached.damage (tells_mid told);
+    places = subst (λ (n : Nature). EntriesTellPlaces n.tells_contents s journal t) loaded.time.nature reached.places;
     unbroken = λ told none. none_broken journal (unbroken told none).1;
     whole = λ told none are. laws.tells new.files
         (reached.whole (tells_mid told) (laws.passes mid.files (whole_same old.files mid.files loaded.same are)) (unbroken told none).0);

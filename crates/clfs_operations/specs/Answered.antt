@@ -1,6 +1,7 @@
 -- How a log on a disk answers the lines of a script.
-use Rattle.std.specs.Prelude.{◌≡◌, ℕ, ◌≤◌, Bool, true, false, List, [], ◌++◌, map, length}
+use Rattle.std.specs.Prelude.{◌≡◌, ℕ, ◌≤◌, Bool, true, false, List, [], ◌∷◌, ◌++◌, map, length}
 use Rattle.clfs_disk.specs.State.{DiskState, TellsContents, IsHonest, IsSteady, IsSettled, Later, Rises}
+use Rattle.clfs_model.specs.declared.refusal.Refusal.{Refusal}
 use Rattle.clfs_model.specs.declared.refusal.Refusal.TheVariants as refusals
 use Rattle.clfs_model.specs.declared.reply.Reply.{Reply}
 use Rattle.clfs_model.specs.declared.reply.Reply.TheVariants as replies
@@ -8,14 +9,15 @@ use Rattle.clfs_model.specs.declared.state.State.{State}
 use Rattle.clfs_model.specs.Flush.{cut}
 use Rattle.clfs_model.specs.Happened.{happened_of}
 use Rattle.clfs_model.specs.Lines.{without_return}
-use Rattle.clfs_model.specs.Run.{Request, RequestStep, Run}
+use Rattle.clfs_model.specs.Run.{Request, RequestStep, Run, asks, reopens, bad_line}
 use Rattle.clfs_model.specs.Script.{calls_and_reopening, line_request, requests_of_lines}
 use Rattle.clfs_model.specs.Step.{IsDamaged}
 use Rattle.clfs_model.specs.Storable.{IsStorable}
 use Rattle.clfs_model.specs.Text.{output_of, reply_line, client_of}
 use Rattle.clfs_model.specs.Valid.{IsValid}
 use Rattle.clfs_recover.specs.Files.{StandsFor, AreWholeFiles}
-use Rattle.clfs_manager.specs.Reopening.{HoldsFlushed}
+use Rattle.clfs_manager.specs.Reading.{TellsBlock}
+use Rattle.clfs_manager.specs.Reopening.{HoldsFlushed, TellsPlace}
 use Rattle.clfs_manager.specs.Crashes.{CrashSurvives}
 use Rattle.clfs_manager.specs.Written.{WritesDisk}
 use Rattle.clfs_operations.specs.Crashed.{CrashLeavesRun, IsLeftFrom, StandsStill, asked_by}
@@ -29,11 +31,29 @@ requests_of lines = requests_of_lines calls_and_reopening lines
 abbrev pub IsFaultless : State → Reply → State → Type 0
 IsFaultless s reply t = t.broken ≡ false → (s.broken ≡ false) × (reply ≡ replies.Refused refusals.DiskFault → ⊥)
 
+-- Where a refusal tells damage, some bytes fail there: of the block of the record to which a call comes, or where opening the log again reads.
+abbrev pub TellsDamageOf : State → Request → Refusal → Type 0
+TellsDamageOf s (asks client call) refusal = TellsBlock s client call refusal
+TellsDamageOf s (reopens client) refusal = TellsPlace refusal
+TellsDamageOf s (bad_line at) refusal = Unit {0}
+
+-- the same of a reply
+abbrev pub TellsItsPlace : State → Request → Reply → Type 0
+TellsItsPlace s request reply = (refusal : Refusal) → reply ≡ replies.Refused refusal → TellsDamageOf s request refusal
+
+-- Each request is answered by a step from the state in which it begins, and tells damage at its place alone.
+abbrev pub RepliesTellPlaces : Bool → State → List Request → List Reply → State → Type 0
+RepliesTellPlaces told s [] [] t = t ≡ s
+RepliesTellPlaces told s (request ∷ requests) (reply ∷ replies) t =
+    (mid : State) × (RequestStep told s request (happened_of reply) reply mid × (TellsItsPlace s request reply × RepliesTellPlaces told mid requests replies t))
+RepliesTellPlaces told s _ _ t = ⊥
+
 -- One request was answered by a step of the log machine, in which that happened what the reply tells. Damage is told only over a disk that doesn't
 -- tell what its files hold.
 pub record AnswersOne (s : State) (old : DiskState) (request : Request) (reply : Reply) (t : State) (new : DiskState) : Type 0 where
   pub step : RequestStep old.nature.tells_contents s request (happened_of reply) reply t
   pub damage : TellsContents old → IsDamaged reply → ⊥
+  pub place : TellsItsPlace s request reply
   pub writes : WritesDisk (reply ≡ replies.Refused refusals.DiskFault) old new
   -- a crash in it leaves a survivor, and where memory ran out for a call the flushed part alone; a broken log makes no call on the disk
   pub crash : CrashSurvives (asked_by request reply) s old new
@@ -64,6 +84,8 @@ pub record AnswersAll (s : State) (old : DiskState) (requests : List Request) (a
   -- a fault is told only where the disk failed, and damage only over a disk that doesn't tell what its files hold
   pub cause : has_fault answers ≡ true → Rises old.faults new.faults
   pub damage : TellsContents old → has_damage answers ≡ false
+  -- and then at its place
+  pub places : RepliesTellPlaces old.nature.tells_contents s requests answers t
   -- the log is broken only by these
   pub unbroken : TellsContents old → s.broken ≡ false → has_fault answers ≡ false → (t.broken ≡ false) × (has_broken answers ≡ false)
   -- files at full length stay so, and no fault comes over a steady disk that has such files

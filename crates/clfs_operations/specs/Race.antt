@@ -61,7 +61,7 @@ pub record EndsRacing (status buffers : ℕ) (old new : DiskState) (left left_af
   pub no_log : status ≡ 6 → Writes (IsUnopenedText old new) written written_after
   -- what the source gave passes a limit; the lines that came whole before it are answered, and then the line that says so
   pub too_long : status ≡ 7 → Writes (IsAnswerUpToLimit race_limits (IsRaced buffers old new) left left_after) written written_after
-  -- the script is read before the log is opened
+  -- bytes were taken from the source's beginning, perhaps none
   pub read : TakesBytes left left_after
   -- the counts of faults never fall
   pub source_count : source ≤ source_after

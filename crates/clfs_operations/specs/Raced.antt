@@ -11,7 +11,7 @@ use Rattle.clfs_model.specs.Storable.{IsStorable}
 use Rattle.clfs_model.specs.Valid.{IsValid}
 use Rattle.clfs_recover.specs.Files.{StandsFor, AreWholeFiles}
 use Rattle.clfs_manager.specs.Reopening.{HoldsFlushed}
-use Rattle.clfs_shared.specs.Journal.{has_fault, has_damage}
+use Rattle.clfs_shared.specs.Journal.{has_fault, has_damage, EntriesTellPlaces}
 use Rattle.clfs_race.specs.Scripts.{race_requests, scripts_of, bad_text, journal_text}
 use Rattle.clfs_operations.specs.Crashed.{IsLeftByJournal}
 use Rattle.clfs_operations.specs.Told.{tells_broken}
@@ -38,6 +38,8 @@ pub record HasTaken (buffers : ℕ) (old new : DiskState) (journal : List Entry)
   -- a call is answered that the disk failed only if it did, and damage only over a disk that doesn't tell what its files hold
   pub cause : has_fault journal ≡ true → Rises old.faults new.faults
   pub damage : TellsContents old → has_damage journal ≡ false
+  -- and then at its place: of the block of the record to which the call comes, some bytes fail there
+  pub places : EntriesTellPlaces old.nature.tells_contents first journal last
   -- the log is broken only by these
   pub unbroken : TellsContents old → has_fault journal ≡ false → is_any_broken journal ≡ false
   -- files at full length stay so, and no fault comes over a steady disk that has such files

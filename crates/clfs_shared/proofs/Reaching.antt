@@ -28,9 +28,10 @@ use Rattle.clfs_recover.specs.Whole.{are_whole}
 use Rattle.clfs_manager.specs.Crashes.{CrashSurvives}
 use Rattle.clfs_manager.specs.Written.{WritesDisk}
 use Rattle.clfs_manager.specs.Calls.{IsSmall}
+use Rattle.clfs_manager.specs.Reading.{TellsBlock}
 use Rattle.clfs_shared.specs.declared.opening.Opening.{Opening}
 use Rattle.clfs_shared.specs.Crashes.{IsLeftByEntries, MakesCall, StaysFlushed, since}
-use Rattle.clfs_shared.specs.Journal.{entry_of, is_fault, is_damage, has_fault, is_out_of_memory}
+use Rattle.clfs_shared.specs.Journal.{entry_of, is_fault, is_damage, has_fault, is_out_of_memory, EntriesTellPlaces, TellsItsBlock}
 use Rattle.clfs_shared.specs.Reached.{IsReached, is_calm}
 use Rattle.clfs_shared.specs.Rooms.{FitsSpare}
 use Rattle.clfs_shared.specs.Sessions.{HasRun}
@@ -78,6 +79,14 @@ and_parts true true false e = absurd (cc e)
 and_parts true false c e = absurd (cc e)
 and_parts false b c e = absurd (cc e)
 
+-- one entry more that tells its place
+tell_more : (told : Bool) (s : State) (entries : List Entry) (mid : State) (entry : Entry) (t : State) → EntriesTellPlaces told s entries mid
+    → Step told mid entry.client entry.call entry.happened entry.reply t → TellsItsBlock mid entry → EntriesTellPlaces told s (entries ++ entry ∷ []) t
+tell_more told s [] mid entry t all step place =
+    (t, (subst (λ (u : State). Step told u entry.client entry.call entry.happened entry.reply t) all step, (subst (λ (u : State). TellsItsBlock u entry) all place, refl)))
+tell_more told s (first ∷ entries) mid entry t all step place =
+    (all.0, (all.1.0, (all.1.1.0, tell_more told all.0 entries mid entry t all.1.1.1 step place)))
+
 -- ---- what a call does
 
 -- the laws that are cited
@@ -97,6 +106,7 @@ pub record Calls (old new : DiskState) (s t : State) (client : ℕ) (call : Call
   pub step : Step old.nature.tells_contents s client call (happened_of reply) reply t
   pub writes : WritesDisk (reply ≡ replies.Refused refusals.DiskFault) old new
   pub damage : TellsContents old → IsDamaged reply → ⊥
+  pub place : (refusal : Refusal) → reply ≡ replies.Refused refusal → TellsBlock s client call refusal
   pub spends : Spends (asks client call) s old new
   -- what it does where memory ran out
   pub starved : reply ≡ replies.Refused refusals.NoMemory → Spends (bad_line 0) s old new
@@ -104,13 +114,15 @@ pub record Calls (old new : DiskState) (s t : State) (client : ℕ) (call : Call
   pub rests : CrashSurvives (bad_line 0) t new new
 
 pub calls_by : (old new : DiskState) (s t : State) (client : ℕ) (call : Call) (reply : Reply) → Step old.nature.tells_contents s client call (happened_of reply) reply t
-    → WritesDisk (reply ≡ replies.Refused refusals.DiskFault) old new → (TellsContents old → IsDamaged reply → ⊥) → CrashSurvives (asks client call) s old new
+    → WritesDisk (reply ≡ replies.Refused refusals.DiskFault) old new → (TellsContents old → IsDamaged reply → ⊥)
+    → ((refusal : Refusal) → reply ≡ replies.Refused refusal → TellsBlock s client call refusal) → CrashSurvives (asks client call) s old new
     → (reply ≡ replies.Refused refusals.NoMemory → CrashSurvives (bad_line 0) s old new)
     → (s.broken ≡ true → new.clock ≡ old.clock) → CrashSurvives (bad_line 0) t new new → Calls old new s t client call reply
-calls_by old new s t client call reply step writes damage survives starved stopped rests = record {
+calls_by old new s t client call reply step writes damage place survives starved stopped rests = record {
   step = step;
   writes = writes;
   damage = damage;
+  place = place;
   spends = record { later = writes.time.later; past = writes.time.past; stopped = stopped; survives = survives };
   starved = λ wanting. record { later = writes.time.later; past = writes.time.past; stopped = stopped; survives = starved wanting };
   rests = rests;
@@ -239,6 +251,7 @@ module _ (laws : Laws) (o : Opening) (old new : DiskState) (s t : State) (before
     later = let a = r.later in let b = calls.writes.time.faults in omega (arith, a, b);
     fault = λ bad. let a = r.fault bad in let b = calls.writes.time.faults in omega (arith, a, b);
     damage = r.damage;
+    places = r.places;
     calm = r.calm;
     whole = λ tells whole whole_log. full tells whole (ap (λ (x : State). x.broken) same ∙ whole_log);
     crash = λ tells images whole has.
@@ -277,6 +290,7 @@ module _ (laws : Laws) (o : Opening) (old new : DiskState) (s t : State) (before
     later = let a = r.later in let b = calls.writes.time.faults in omega (arith, a, b);
     fault = λ bad. risen (one_of (has_fault before) (is_fault (happened_of reply)) (sym (list_any-append (λ (e : Entry). is_fault e.happened) before (entry ∷ [])) ∙ bad));
     damage = λ told. none_more (λ (e : Entry). is_damage e.happened) before entry (r.damage told) (no_damage reply (calls.damage (r.contents ∙ told)));
+    places = tell_more o.tells_contents o.state before s entry t r.places step_told calls.place;
     calm = λ calm. none_more (λ (e : Entry). is_fault e.happened) before entry (r.calm calm) (calm_reply calm);
     whole = full;
     crash = λ tells images whole has.

@@ -10,7 +10,7 @@ use Rattle.clfs_model.specs.Journals.{IsLegal}
 use Rattle.clfs_recover.specs.Whole.{are_whole}
 use Rattle.clfs_shared.specs.declared.opening.Opening.{Opening}
 use Rattle.clfs_shared.specs.Crashes.{IsLeftByEntries, since}
-use Rattle.clfs_shared.specs.Journal.{has_fault, has_damage}
+use Rattle.clfs_shared.specs.Journal.{has_fault, has_damage, EntriesTellPlaces}
 
 -- a log in this state over this disk, as an opening
 abbrev pub opening_of : State → DiskState → Opening
@@ -29,7 +29,7 @@ abbrev pub is_calm : Opening → Bool
 is_calm o = o.is_steady && o.tells_contents && o.is_whole
 
 -- The journal is legal from the opening to this state. A fault stands in it only where the disk has failed since, and never where it is calm;
--- damage only where the disk doesn't tell what its files hold. A log that isn't broken has files at full length, where the opening had. Where the
+-- damage only where the disk doesn't tell what its files hold, and at a place where bytes fail. A log that isn't broken has files at full length, where the opening had. Where the
 -- disk keeps what it synced, a crash at each moment since the opening leaves what survives a call of the journal, or between two calls the flushed part.
 pub record IsReached (o : Opening) (disk : DiskState) (s : State) (journal : List Entry) : Type 0 where
   pub legal : IsLegal o.tells_contents journal o.state s
@@ -39,6 +39,7 @@ pub record IsReached (o : Opening) (disk : DiskState) (s : State) (journal : Lis
   pub later : o.faults ≤ disk.faults
   pub fault : has_fault journal ≡ true → Rises o.faults disk.faults
   pub damage : o.tells_contents ≡ true → has_damage journal ≡ false
+  pub places : EntriesTellPlaces o.tells_contents o.state journal s
   pub calm : is_calm o ≡ true → has_fault journal ≡ false
   pub whole : o.tells_contents ≡ true → o.is_whole ≡ true → s.broken ≡ false → are_whole disk.files ≡ true
   pub crash : o.tells_contents ≡ true → o.tells_images ≡ true → (whole : Bool) → (whole ≡ true → o.is_whole ≡ true)
@@ -54,6 +55,7 @@ reached_at_once s disk journal none = let F : List Entry → Type 0 = λ j. IsRe
   later = le_refl disk.faults;
   fault = λ bad. absurd (true≢false (sym bad));
   damage = λ _. refl;
+  places = refl;
   calm = λ _. refl;
   whole = λ _ is _. is;
   crash = λ _ _ whole _. (

@@ -10,6 +10,7 @@ returns-in-Step g c =
     rw c.in-Step.is (record {
       step = is.step;
       damage = is.damage;
+      place = is.place;
       writes = is.writes;
       crash = survives_by c.in-Step.client c.in-Step.call.now c.step.result old.0 (g.D.Disk.state old.1) (g.D.Disk.state after.1) is.moments is.no_memory;
       stopped = λ broken. stands_as g.D.Disk.state old.1 after.1 (is.stopped broken);

@@ -19,7 +19,7 @@ returns-clause-lawful g c = λ o reached.
       keeps = c.refusals_change_nothing.ensures.calls;
     }) o (disk x.manager.1) (disk next.1) x.manager.0 next.0 (entries x.journal) c.args.client c.args.call.now reply
     (calls_by (disk x.manager.1) (disk next.1) x.manager.0 next.0 c.args.client c.args.call.now reply c.step-reply.ensures.step c.step-reply.ensures.writes
-    c.step-reply.ensures.damage c.step-reply.ensures.moments c.step-reply.ensures.no_memory (λ broken. same_clock disk next.1 x.manager.1 (c.step-reply.ensures.stopped broken)) (c.stored-2.ensures.survives_nothing 0))
+    c.step-reply.ensures.damage c.step-reply.ensures.place c.step-reply.ensures.moments c.step-reply.ensures.no_memory (λ broken. same_clock disk next.1 x.manager.1 (c.step-reply.ensures.stopped broken)) (c.stored-2.ensures.survives_nothing 0))
     reached (entries c.record.new.self) (sym c.is_out_of_memory.ensures ∙ c.if-is_out_of_memory.false)
     (behind c.args.client c.args.call.now reply (entries x.journal) (entries c.prepare.new.self) (entries c.record.new.self) c.record.ensures c.prepare.ensures.same)
 
@@ -39,7 +39,7 @@ returns-then-is_out_of_memory-clause-lawful g c = λ o reached.
       keeps = c.refusals_change_nothing.ensures.calls;
     }) o (disk x.manager.1) (disk next.1) x.manager.0 next.0 (entries x.journal) (entries c.prepare.new.self) c.args.client c.args.call.now reply
     (calls_by (disk x.manager.1) (disk next.1) x.manager.0 next.0 c.args.client c.args.call.now reply c.step-reply.ensures.step c.step-reply.ensures.writes
-    c.step-reply.ensures.damage c.step-reply.ensures.moments c.step-reply.ensures.no_memory (λ broken. same_clock disk next.1 x.manager.1 (c.step-reply.ensures.stopped broken)) (c.stored-2.ensures.survives_nothing 0))
+    c.step-reply.ensures.damage c.step-reply.ensures.place c.step-reply.ensures.moments c.step-reply.ensures.no_memory (λ broken. same_clock disk next.1 x.manager.1 (c.step-reply.ensures.stopped broken)) (c.stored-2.ensures.survives_nothing 0))
     reached (sym c.is_out_of_memory.ensures ∙ c.if-is_out_of_memory.true) c.prepare.ensures.same
 
 pub returns-then-is_out_of_memory-clause-ran : goal.returns-then-is_out_of_memory-clause-ran

@@ -1,4 +1,4 @@
-use Rattle.clfs_manager.proofs.Words.{◌≡◌, ℕ, ◌+◌, ◌-◌, refl, sym, ap, subst, ◌∙◌, List, [], ◌∷◌, ◌++◌, length, arith, None, length-drop, null_lsn}
+use Rattle.clfs_manager.proofs.Words.{◌≡◌, ℕ, ◌+◌, ◌-◌, inr, refl, sym, ap, subst, ◌∙◌, List, [], ◌∷◌, ◌++◌, length, arith, None, length-drop, null_lsn}
 use Rattle.clfs_manager.proofs.Words.{container_of, older_of, BaseImage, Row, State, Stream, AreSealed, block_start, heads_of, hold, stream_number_from}
 use Rattle.clfs_manager.proofs.Words.{next_copy, Newest, PhysicalRefusal, streams_with, shape_of, StoredAfter, Holds, AreKept, with_stream, IsIntact}
 use Rattle.clfs_manager.proofs.Words.{WritesDisk, Log}
@@ -12,6 +12,7 @@ use Rattle.clfs_manager.proofs.CopiedMeanwhile.{crash_copied, stream_copied}
 use Rattle.clfs_manager.proofs.Crashes.{crash_still}
 use Rattle.clfs_manager.proofs.Intact.{intact_done, writes_failed, writes_fine, writes_nothing}
 use Rattle.clfs_manager.proofs.Numbers.{hold_within}
+use Rattle.clfs_manager.proofs.KeptFiles.{counts_kept, counts_none}
 use Rattle.clfs_manager.proofs.log.Log.add_stream.Goals as goal
 use Rattle.clfs_manager.proofs.log.Log.add_stream.Given.{Over}
 
@@ -227,3 +228,28 @@ returns-clause-moments g c =
     c.in_ok-memory.memory.1 c.container-first.result c.args.self.now.physical blocks c.requires.intact.sound.valid c.requires.held c.image-newest.ensures.image c.image-newest.ensures.current
     c.in_ok-memory.ensures.row (c.container-first.ensures.value ∙ ap container_of c.hold.ensures.value) stored)
     c.add_stream.ensures.moments
+
+pub returns-in_err-memory-clause-files : goal.returns-in_err-memory-clause-files
+returns-in_err-memory-clause-files g c = λ fine.
+    let disk = g.D.Disk.state c.args.disk.now in
+    let old = c.args.self.now in
+    counts_none disk disk old (record old { tables = c.stream_memory.new.tables }) c.requires.intact.sound.unbroken refl
+
+pub returns-in-Err-NoMemory-clause-files : goal.returns-in-Err-NoMemory-clause-files
+returns-in-Err-NoMemory-clause-files g c = λ fine.
+    let old = c.args.self.now in
+    let none = c.add_stream.ensures.no_memory (c.in-Err-NoMemory.is ∙ ap (λ (e : PhysicalRefusal). Err e) c.in-Err-NoMemory.field-0-is) in
+    counts_none _ _ old (record old { tables = c.stream_memory.new.tables; physical = c.add_stream.new.self }) c.requires.intact.sound.unbroken none.0
+
+pub returns-in-Err-DiskFault-clause-files : goal.returns-in-Err-DiskFault-clause-files
+returns-in-Err-DiskFault-clause-files g c = λ fine. absurd (fine refl)
+
+pub returns-clause-files : goal.returns-clause-files
+returns-clause-files g c = λ fine.
+    let old = c.args.self.now in
+    counts_kept _ _ old (record old { tables = c.add_stream-2.new.self; physical = c.add_stream.new.self; state = c.with_stream-self.result })
+    c.requires.intact.sound.unbroken (record {
+      copy = inr (ap (λ (n : Newest). n.image.version) (newest_is g c));
+      made = ap (λ (n : Newest). n.image.files_made) (newest_is g c);
+      lengths = c.add_stream.ensures.lengths;
+    })

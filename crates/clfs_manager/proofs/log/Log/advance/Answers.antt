@@ -4,6 +4,7 @@ use Rattle.clfs_manager.proofs.Changing.{changes_failed, changes_forgot, changes
 use Rattle.clfs_manager.proofs.ClosedPlace.{flush_is}
 use Rattle.clfs_manager.proofs.FlushedLog.{hold_done}
 use Rattle.clfs_manager.proofs.MovedBase.{base_is_up}
+use Rattle.clfs_manager.proofs.KeptFiles.{files_before, files_then}
 use Rattle.clfs_manager.proofs.log.Log.advance.Goals as goal
 
 pub store_base-requires-clause-up : goal.store_base-requires-clause-up
@@ -47,3 +48,8 @@ returns-clause-change g c =
     changes_then _ _ (s ∷ []) [] (flush s) t _ _ _ c.write_all.new.self c.forget_low.new.self c.in_ok-write_all.ensures.change
     (changes_forgot c.store_base.result _ tt (flush s ∷ []) t _ _ c.store_base.new.self c.forget_low.new.self c.in_default.is moved
     c.forget_low.ensures.sound c.forget_low.ensures.same c.forget_low.ensures.forgotten)
+
+pub returns-clause-files : goal.returns-clause-files
+returns-clause-files g c =
+    files_before _ _ _ _ c.forget_low.new.self.physical c.forget_low.ensures.same.physical
+    (files_then _ _ _ _ _ _ c.in_ok-write_all.ensures.files c.in_default.ensures.files)

@@ -3,6 +3,7 @@ use Rattle.clfs_manager.proofs.Words.{flush_if, hold_sizes, plain_record, put, s
 use Rattle.clfs_manager.proofs.AppendCall.{hold_named}
 use Rattle.clfs_manager.proofs.Reserved.{intact_after}
 use Rattle.clfs_manager.proofs.Through.{through_changes, through_answered, through_failed, through_named, through_refused, through_then}
+use Rattle.clfs_manager.proofs.KeptFiles.{files_behind, files_then}
 use Rattle.clfs_manager.proofs.log.Log.append_grown.Goals as goal
 
 pub hold_sizes-requires-clause-valid : goal.hold_sizes-requires-clause-valid
@@ -115,3 +116,7 @@ returns-clause-change g c =
     (through_changes c.finish.result (t ∷ seal_if draft.seal t ∷ []) (last t) between after log c.finish.ensures.change) in
     through_then _ _ (ready_stages u n) (stages held) joined (last held) before between after c.put_draft.new.self log c.in_ok-lsn.ensures.change
     (through_answered c.finish.result _ _ (stages held) (last held) between after log c.in_ok-finish.was finishes)
+
+pub returns-clause-files : goal.returns-clause-files
+returns-clause-files g c =
+    files_then _ _ _ _ _ _ c.in_ok-lsn.ensures.files (files_behind _ _ _ _ _ c.hold_sizes.ensures.areas.physical c.in_ok-finish.ensures.files)

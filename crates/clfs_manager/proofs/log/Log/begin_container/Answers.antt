@@ -1,6 +1,7 @@
 use Rattle.clfs_manager.proofs.Words.{refl, sym, subst, ◌∙◌, arith, [], ◌∷◌, IsErr, Ok, Failed, turned, DiskState, State, flush, ChangesLog, IsIntact}
 use Rattle.clfs_manager.proofs.Words.{IsYetToForget, Log}
 use Rattle.clfs_manager.proofs.Changing.{changes_failed, changes_forgot, changes_refused, changes_then}
+use Rattle.clfs_manager.proofs.KeptFiles.{files_before, files_then}
 use Rattle.clfs_manager.proofs.log.Log.begin_container.Goals as goal
 
 pub returns-in_err-write_all-clause-change : goal.returns-in_err-write_all-clause-change
@@ -47,3 +48,8 @@ returns-clause-room g c =
       areas = forgot.areas ∙ turned.areas ∙ written.areas;
       ends = omega (arith, written.ends, turned.ends, forgot.ends);
     }
+
+pub returns-clause-files : goal.returns-clause-files
+returns-clause-files g c =
+    files_before _ _ _ _ c.forget_low.new.self.physical c.forget_low.ensures.same.physical
+    (files_then _ _ _ _ _ _ c.in_ok-write_all.ensures.files c.in_ok-turn.ensures.files)

@@ -1,6 +1,7 @@
 use Rattle.clfs_manager.proofs.Words.{refl, ap, ◌∙◌, sym, subst, IsErr, IsOk, State, Newest, StoredAfter, with_archive}
 use Rattle.clfs_manager.proofs.Called.{calls_fine, stores_failed}
 use Rattle.clfs_manager.proofs.StillStorable.{storable_archived}
+use Rattle.clfs_manager.proofs.KeptFiles.{files_before}
 use Rattle.clfs_manager.proofs.log.Log.change_archive.Goals as goal
 
 pub forget_low-requires : goal.forget_low-requires
@@ -52,3 +53,6 @@ returns-clause-change g c =
       calls = calls_fine c.store_archive.result tt c.args.self.now.physical.image before after (subst (λ r. IsOk r) (sym c.in_ok-store_archive.was) refl)
           c.store_archive.ensures.change.calls;
     }
+
+pub returns-clause-files : goal.returns-clause-files
+returns-clause-files g c = files_before _ _ _ _ c.forget_low.new.self.physical c.forget_low.ensures.same.physical c.in_ok-store_archive.ensures.files

@@ -1,5 +1,6 @@
 use Rattle.clfs_manager.proofs.Words.{refl, [], flush_if}
 use Rattle.clfs_manager.proofs.Changing.{changes_nothing}
+use Rattle.clfs_manager.proofs.KeptFiles.{files_kept}
 use Rattle.clfs_manager.proofs.log.Log.flush_if.Goals as goal
 
 pub returns-then-asked-clause-change : goal.returns-then-asked-clause-change
@@ -8,3 +9,6 @@ returns-then-asked-clause-change g c = rw c.if-asked.true c.write_all.ensures.ch
 pub returns-clause-change : goal.returns-clause-change
 returns-clause-change g c = changes_nothing tt c.logs_are_copies_and_blocks.ensures.stands c.logs_are_copies_and_blocks.ensures.by_file (g.D.Disk.state c.args.disk.now)
     c.args.self.now [] (flush_if c.args.asked c.args.self.now.state.value) c.requires.intact (rw c.if-asked.false refl)
+
+pub returns-clause-files : goal.returns-clause-files
+returns-clause-files g c = files_kept (g.D.Disk.state c.args.disk.now) c.args.self.now.physical

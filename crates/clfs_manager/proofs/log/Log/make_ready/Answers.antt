@@ -3,6 +3,7 @@ use Rattle.clfs_manager.proofs.Words.{LogEntry, State, seal, flush, IsStorable, 
 use Rattle.clfs_manager.specs.Putting.{sealing_writes}
 use Rattle.clfs_manager.proofs.ReadyLog.{it_joins, it_begins, it_turns, may_turn}
 use Rattle.clfs_manager.proofs.Through.{through_changes, through_named, through_nothing}
+use Rattle.clfs_manager.proofs.KeptFiles.{files_kept}
 use Rattle.clfs_manager.proofs.log.Log.make_ready.Goals as goal
 
 pub returns-in-BeginsBlock-clause-quiet : goal.returns-in-BeginsBlock-clause-quiet
@@ -59,3 +60,6 @@ returns-in-BeginsContainer-clause-change g c =
     through_named c.begin_container.result (s ∷ flush s ∷ turned (flush s) ∷ []) (ready_stages s c.args.len) (turned (flush s)) (readied s c.args.len) _ _ _
     (rw (turns.0, turns.1) refl) (rw (turns.0, turns.1) refl)
     (through_changes c.begin_container.result (s ∷ flush s ∷ []) (turned (flush s)) _ _ _ c.begin_container.ensures.change)
+
+pub returns-in-Joins-clause-files : goal.returns-in-Joins-clause-files
+returns-in-Joins-clause-files g c = files_kept (g.D.Disk.state c.args.disk.now) c.args.self.now.physical

@@ -3,6 +3,7 @@ use Rattle.clfs_manager.proofs.Crashes.{crash_still, survives_as}
 use Rattle.clfs_physical.specs.declared.refusal.PhysicalRefusal.TheVariants as physical
 use Rattle.clfs_manager.proofs.Intact.{writes_as}
 use Rattle.clfs_manager.proofs.RestartCall.{intact_same, left_broken, left_intact}
+use Rattle.clfs_manager.proofs.KeptFiles.{counts_behind, counts_none, not_faulted}
 use Rattle.clfs_manager.proofs.log.Log.prepare.Goals as goal
 
 pub grow-requires-clause-intact : goal.grow-requires-clause-intact
@@ -82,3 +83,21 @@ pub returns-in-Err-NoMemory-clause-no_memory : goal.returns-in-Err-NoMemory-clau
 returns-in-Err-NoMemory-clause-no_memory g c = λ wanting asked s before.
     let done = rw c.in-Err-NoMemory.field-0-is at c.in-Err-NoMemory.ensures in
     done.change.old_size refl asked s (survives_as asked s _ c.args.self.now.state.value (ap (λ t. t.value) c.take_memory.ensures.same.state) before)
+
+pub returns-in_err-take_memory-clause-files : goal.returns-in_err-take_memory-clause-files
+returns-in_err-take_memory-clause-files g c = λ fine.
+    let disk = g.D.Disk.state c.args.disk.now in
+    let same = c.take_memory.ensures.same in
+    counts_none disk disk c.args.self.now c.take_memory.new.self (same.broken ∙ c.requires.intact.sound.unbroken) same.physical
+
+pub returns-in-Ok-clause-files : goal.returns-in-Ok-clause-files
+returns-in-Ok-clause-files g c = λ fine.
+    counts_behind _ _ c.args.self.now c.take_memory.new.self c.grow.new.self c.take_memory.ensures.same.physical (c.in-Ok.ensures.change.files (λ f. cc f))
+
+pub returns-in-Err-NoMemory-clause-files : goal.returns-in-Err-NoMemory-clause-files
+returns-in-Err-NoMemory-clause-files g c = λ fine.
+    let done = rw c.in-Err-NoMemory.field-0-is at c.in-Err-NoMemory.ensures in
+    counts_behind _ _ c.args.self.now c.take_memory.new.self c.grow.new.self c.take_memory.ensures.same.physical (done.change.files not_faulted)
+
+pub returns-in-Err-DiskFault-clause-files : goal.returns-in-Err-DiskFault-clause-files
+returns-in-Err-DiskFault-clause-files g c = λ fine. absurd (fine refl)

@@ -4,6 +4,7 @@ use Rattle.clfs_manager.proofs.PutRecord.{intact_put}
 use Rattle.clfs_manager.proofs.Reserved.{intact_after}
 use Rattle.clfs_manager.proofs.Sealed.{on_ok_by}
 use Rattle.clfs_manager.proofs.Through.{through_left, through_named}
+use Rattle.clfs_manager.proofs.KeptFiles.{files_behind}
 use Rattle.clfs_manager.proofs.log.Log.put_draft.Goals as goal
 
 pub put_record-requires-clause-intact : goal.put_record-requires-clause-intact
@@ -63,3 +64,6 @@ returns-clause-area g c =
       client = ap (λ (table : AreaTable). (area_at place table.areas).client) is.areas ∙ same.client;
       number = ap (λ (table : AreaTable). (area_at place table.areas).number) is.areas ∙ same.number;
     }) c.put_record.ensures.change.left
+
+pub returns-clause-files : goal.returns-clause-files
+returns-clause-files g c = on_ok_by c.put_record.result (files_behind _ _ _ _ _ c.spend.ensures.areas.physical) c.put_record.ensures.files

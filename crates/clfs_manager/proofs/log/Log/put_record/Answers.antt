@@ -2,6 +2,7 @@ use Rattle.clfs_manager.proofs.Words.{refl, sym, ap, subst, ◌∙◌, length, I
 use Rattle.clfs_manager.proofs.Words.{next_lsn, put, unplaced}
 use Rattle.clfs_manager.proofs.PutRecord.{open_put}
 use Rattle.clfs_manager.proofs.Through.{through_memory, through_refused}
+use Rattle.clfs_manager.proofs.KeptFiles.{files_before}
 use Rattle.clfs_manager.proofs.log.Log.put_record.Goals as goal
 
 pub put-requires-clause-may : goal.put-requires-clause-may
@@ -57,3 +58,6 @@ returns-clause-change g c =
       unbroken = same.broken ∙ intact.sound.unbroken;
       areas = same.areas ∙ c.in_ok-make_ready.ensures.room.areas;
     })
+
+pub returns-clause-files : goal.returns-clause-files
+returns-clause-files g c = files_before _ _ _ _ c.put.new.self.physical c.put.ensures.same.physical c.in_ok-make_ready.ensures.files

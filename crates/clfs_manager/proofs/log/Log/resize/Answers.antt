@@ -1,4 +1,4 @@
-use Rattle.clfs_manager.proofs.Words.{◌≡◌, true, false, refl, sym, ap, subst, ◌∙◌, arith, container_of, older_of, State, hold, with_containers, next_copy}
+use Rattle.clfs_manager.proofs.Words.{◌≡◌, inr, true, false, refl, sym, ap, subst, ◌∙◌, arith, container_of, older_of, State, hold, with_containers, next_copy}
 use Rattle.clfs_manager.proofs.Words.{Newest, IsIntact, Log}
 use Rattle.clfs_physical.specs.Changes.{with_containers as counting}
 use Rattle.clfs_physical.specs.declared.change.Change.TheVariants as changes
@@ -6,6 +6,7 @@ use Rattle.clfs_manager.proofs.CopiedMeanwhile.{crash_copied, size_copied}
 use Rattle.clfs_manager.proofs.CopiedLog.{valid_holds}
 use Rattle.clfs_manager.proofs.Crashes.{crash_kept}
 use Rattle.clfs_manager.proofs.Intact.{intact_done}
+use Rattle.clfs_manager.proofs.KeptFiles.{counts_none}
 use Rattle.clfs_manager.proofs.Numbers.{hold_within}
 use Rattle.clfs_manager.proofs.Sized.{holds_sized, intact_grown, kept_sized, writes_sized}
 use Rattle.clfs_manager.proofs.StillStorable.{storable_sized}
@@ -89,6 +90,16 @@ returns-in-Ok-clause-change g c = record {
       (c.container-first.ensures.value ∙ ap container_of c.hold.ensures.value) stored)
       c.set_containers.ensures.moments;
   old_size = λ f. absurd (cc f);
+  files = λ fine.
+      let old = c.args.self.now in
+      let n = c.args.containers in
+      let newest : c.set_containers.new.self ≡ record { slot = older_of old.physical.slot; image = counting n (next_copy c.container-first.result changes.Listing old.physical.image) } =
+      c.in-Ok.ensures.now in
+      record {
+        unbroken = c.requires.intact.sound.unbroken;
+        copy = inr (ap (λ (k : Newest). k.image.version) newest);
+        made = λ told file above upto. c.in-Ok.ensures.made told file above (omega (arith, above, upto, ap (λ (k : Newest). k.image.files_made) newest));
+      };
 }
 
 pub returns-in-Err-DiskFault-clause-change : goal.returns-in-Err-DiskFault-clause-change
@@ -119,6 +130,7 @@ returns-in-Err-DiskFault-clause-change g c = record {
       (c.container-first.ensures.value ∙ ap container_of c.hold.ensures.value) stored)
       c.set_containers.ensures.moments;
   old_size = λ f. absurd (cc f);
+  files = λ fine. absurd (fine refl);
 }
 
 pub returns-in-Err-NoMemory-clause-change : goal.returns-in-Err-NoMemory-clause-change
@@ -163,4 +175,8 @@ returns-in-Err-NoMemory-clause-change g c = record {
       crash_kept c.logs_are_copies_and_blocks.ensures.stands c.logs_are_copies_and_blocks.ensures.by_file (g.D.Disk.state c.args.disk.now)
       (g.D.Disk.state c.set_containers.new.disk) old.state.value old c.requires.intact.opened (valid_holds old.state.value c.requires.intact.sound.valid)
       (done.no_copy refl);
+  files = λ fine.
+      let old = c.args.self.now in
+      let done = rw c.in-Err-NoMemory.field-0-is at c.in-Err-NoMemory.ensures in
+      counts_none _ _ old (record old { physical = c.set_containers.new.self }) c.requires.intact.sound.unbroken (done.no_memory refl);
 }

@@ -3,6 +3,7 @@ use Rattle.clfs_manager.proofs.Words.{ready_stages, LogEntry, Area, State, rebas
 use Rattle.clfs_manager.proofs.Reserved.{intact_after}
 use Rattle.clfs_manager.proofs.RestartCall.{may_finish, put_broken}
 use Rattle.clfs_manager.proofs.Through.{through_answered, through_changes, through_failed, through_named, through_refused, through_then}
+use Rattle.clfs_manager.proofs.KeptFiles.{files_behind, files_then}
 use Rattle.clfs_manager.proofs.log.Log.restart_grown.Given.{Over}
 use Rattle.clfs_manager.proofs.log.Log.restart_grown.Goals as goal
 
@@ -106,3 +107,7 @@ returns-clause-change g c =
     (ap whole c.spend.ensures.state) (ap (λ (t : State). last (put t e)) c.spend.ensures.state)
     (through_then _ _ (ready_stages v n) (stages (put v e)) (put v e) (last (put v e)) before between after c.put_record.new.self log c.in_ok-lsn.ensures.change
     (through_answered c.finish_restart.result _ _ (stages (put v e)) (last (put v e)) between after log c.in_ok-finish_restart.was finishes))
+
+pub returns-clause-files : goal.returns-clause-files
+returns-clause-files g c =
+    files_then _ _ _ _ _ _ (files_behind _ _ _ _ _ c.spend.ensures.areas.physical c.in_ok-lsn.ensures.files) c.in_ok-finish_restart.ensures.files

@@ -5,6 +5,7 @@ use Rattle.clfs_manager.proofs.Crashes.{crash_still}
 use Rattle.clfs_manager.proofs.FlushedLog.{laid_log}
 use Rattle.clfs_manager.proofs.Intact.{writes_nothing}
 use Rattle.clfs_manager.proofs.Sealed.{seal_is_flush, intact_sealed}
+use Rattle.clfs_manager.proofs.KeptFiles.{files_before, files_kept}
 use Rattle.clfs_manager.proofs.log.Log.seal.Goals as goal
 
 pub end_block-requires : goal.end_block-requires
@@ -49,3 +50,12 @@ returns-clause-change g c =
       moments = λ asked t all last. crash_still c.logs_are_copies_and_blocks.ensures.stands c.logs_are_copies_and_blocks.ensures.by_file
           (g.D.Disk.state c.args.disk.now) c.args.self.now c.requires.intact asked t (All-head (Survive asked t) s [] all);
     }
+
+pub returns-then-place-eq0-clause-files : goal.returns-then-place-eq0-clause-files
+returns-then-place-eq0-clause-files g c = files_kept (g.D.Disk.state c.args.disk.now) c.args.self.now.physical
+
+pub returns-clause-files : goal.returns-clause-files
+returns-clause-files g c =
+    let disk = g.D.Disk.state c.args.disk.now in
+    let old = c.args.self.now.physical in
+    files_before disk disk old old c.end_block.new.self.physical c.end_block.ensures.ended.physical (files_kept disk old)

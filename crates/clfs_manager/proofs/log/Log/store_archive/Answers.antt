@@ -3,6 +3,7 @@ use Rattle.clfs_manager.proofs.Words.{next_copy, Newest, Change, shape_of, archi
 use Rattle.clfs_manager.proofs.CopiedMeanwhile.{archive_copied, copied_meanwhile}
 use Rattle.clfs_manager.proofs.Holds.{hold_is}
 use Rattle.clfs_manager.proofs.Numbers.{hold_within}
+use Rattle.clfs_manager.proofs.KeptFiles.{files_copied}
 use Rattle.clfs_manager.proofs.log.Log.store_archive.Goals as goal
 
 pub write_copy-requires-clause-first : goal.write_copy-requires-clause-first
@@ -137,3 +138,7 @@ returns-in-Err-clause-change g c = record {
     steady = λ calm made. absurd (let wrong = subst (λ r. IsOk r) c.in-Err.is (c.write_copy.ensures.steady calm made).0 in cc wrong);
   };
 }
+
+pub returns-clause-files : goal.returns-clause-files
+returns-clause-files g c = files_copied (g.D.Disk.state c.args.disk.now) (g.D.Disk.state c.write_copy.new.disk) c.args.self.now.physical c.write_copy.new.self
+    (older_of c.args.self.now.physical.slot) c.container.result c.archive_change-change.result c.in_default.ensures.now c.write_copy.ensures.lengths

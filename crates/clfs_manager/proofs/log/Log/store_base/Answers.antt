@@ -11,6 +11,7 @@ use Rattle.clfs_manager.proofs.Numbers.{hold_within}
 use Rattle.clfs_manager.proofs.ReadKeeps.{tells_before}
 use Rattle.clfs_manager.proofs.Reached.{number_there}
 use Rattle.clfs_manager.proofs.Settled.{stays_settled}
+use Rattle.clfs_manager.proofs.KeptFiles.{files_copied}
 use Rattle.clfs_manager.proofs.log.Log.store_base.Goals as goal
 use Rattle.clfs_manager.proofs.log.Log.store_base.Given.{Over}
 
@@ -193,3 +194,7 @@ returns-clause-change g c =
           (λ f. cc f) intact.opened (stored_then g c) c.write_copy.ensures.time (λ calm made. (c.write_copy.ensures.steady calm made).1);
       moments = λ asked survived all last. crashes asked survived (All-head (Survive asked survived) s [] all) last;
     }
+
+pub returns-clause-files : goal.returns-clause-files
+returns-clause-files g c = files_copied (g.D.Disk.state c.args.disk.now) (g.D.Disk.state c.write_copy.new.disk) c.args.self.now.physical c.write_copy.new.self
+    (older_of c.args.self.now.physical.slot) c.container.result (changes.Base c.args.stream c.args.base) c.in_default.ensures.now c.write_copy.ensures.lengths

@@ -2,6 +2,7 @@ use Rattle.clfs_manager.proofs.Words.{◌≡◌, ◌+◌, ◌-◌, refl, ap, sub
 use Rattle.clfs_manager.proofs.Words.{Newest, Change, shape_of, change_to, with_policies}
 use Rattle.clfs_manager.proofs.CopiedMeanwhile.{copied_meanwhile, policies_copied}
 use Rattle.clfs_manager.proofs.Numbers.{hold_within}
+use Rattle.clfs_manager.proofs.KeptFiles.{files_copied}
 use Rattle.clfs_manager.proofs.log.Log.store_policies.Goals as goal
 
 pub returns-clause-change : goal.returns-clause-change
@@ -97,3 +98,7 @@ returns-in-Err-clause-change g c = record {
     steady = λ calm made. absurd (let wrong = subst (λ r. IsOk r) c.in-Err.is (c.write_copy.ensures.steady calm made).0 in cc wrong);
   };
 }
+
+pub returns-clause-files : goal.returns-clause-files
+returns-clause-files g c = files_copied (g.D.Disk.state c.args.disk.now) (g.D.Disk.state c.write_copy.new.disk) c.args.self.now.physical c.write_copy.new.self
+    (older_of c.args.self.now.physical.slot) c.container-first.result c.change_to.result c.in_default.ensures.now c.write_copy.ensures.lengths

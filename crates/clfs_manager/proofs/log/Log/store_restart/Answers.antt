@@ -3,6 +3,7 @@ use Rattle.clfs_manager.proofs.CrashedRestart.{crash_restart}
 use Rattle.clfs_manager.proofs.Words.{◌≡◌, false, true, refl, ap, subst, ◌∙◌, [], ◌∷◌, All-head, IsOk, State, rebased, flush, Log, IsYetToForget}
 use Rattle.clfs_manager.proofs.Intact.{writes_failed, writes_fine}
 use Rattle.clfs_manager.proofs.Restarted.{finished, moved_to_forget, stored_by_group, GroupLaws, IsFinished}
+use Rattle.clfs_manager.proofs.KeptFiles.{files_flushed}
 use Rattle.clfs_manager.proofs.log.Log.store_restart.Given.{Over}
 use Rattle.clfs_manager.proofs.log.Log.store_restart.Goals as goal
 
@@ -115,3 +116,7 @@ returns-clause-change g c =
           c.write_group.ensures.calls.time (λ calm made. (c.write_group.ensures.calls.steady calm made).1);
       moments = λ asked t all last. crashes asked t (All-head (Survive asked t) s [] all) last;
     }
+
+pub returns-clause-files : goal.returns-clause-files
+returns-clause-files g c =
+    files_flushed (g.D.Disk.state c.args.disk.now) (g.D.Disk.state c.write_group.new.disk) _ _ c.in_ok-write_group.ensures.same.physical c.write_group.ensures.lengths

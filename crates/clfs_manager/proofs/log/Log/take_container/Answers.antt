@@ -1,4 +1,4 @@
-use Rattle.clfs_manager.proofs.Words.{◌≡◌, ℕ, ◌+◌, ◌%◌, ◌≤◌, sym, ap, subst, ◌∙◌, arith, [], ◌∷◌, length, map, length-append, container_of, BaseImage}
+use Rattle.clfs_manager.proofs.Words.{◌≡◌, ℕ, ◌+◌, ◌%◌, ◌≤◌, inr, sym, ap, subst, ◌∙◌, arith, [], ◌∷◌, length, map, length-append, container_of, BaseImage}
 use Rattle.clfs_manager.proofs.Words.{IsImage, current, older_of, turned, State, hold, Newest, Blocks, with_blocks, low_of, taken_of, IsLogWith}
 use Rattle.clfs_manager.proofs.Words.{from_container, IsStored}
 use Rattle.clfs_physical.specs.Changes.{with_file, with_next_turn}
@@ -106,3 +106,14 @@ returns-clause-meanwhile g c = λ blocks stored settled whole stores.
 pub returns-clause-calls : goal.returns-clause-calls
 returns-clause-calls g c =
     record { settled = c.turn.ensures.settled; time = c.turn.ensures.time; cause = c.turn.ensures.cause; steady = c.turn.ensures.steady }
+
+pub returns-clause-files : goal.returns-clause-files
+returns-clause-files g c =
+    let low = low_is (first g c) (now g c) c.image-newest.ensures.image c.image-newest.ensures.current in
+    on_ok_by c.turn.result (λ taken.
+    let is : c.turn.new.self ≡ taken_of (file g c) (low_of (first g c) (now g c)) = taken (file g c) c.turn.ensures.file.1 in
+    record {
+      copy = inr (ap (λ (n : Newest). n.image.version) is);
+      made = ap (λ (n : Newest). n.image.files_made) is ∙ ap (λ (i : BaseImage). i.files_made) low.is;
+      lengths = c.turn.ensures.lengths;
+    }) c.turn.ensures.now

@@ -77,3 +77,6 @@ returns-clause-room g c =
       areas = ap (λ (l : Log). l.areas) same;
       ends = omega (arith, ap (λ (l : Log). l.archive.room) same);
     }
+
+pub returns-clause-files : goal.returns-clause-files
+returns-clause-files g c = c.in_default.ensures.files

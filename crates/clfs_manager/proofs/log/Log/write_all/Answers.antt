@@ -4,6 +4,7 @@ use Rattle.clfs_manager.proofs.CopiedLog.{valid_holds}
 use Rattle.clfs_manager.proofs.Crashes.{crash_stored}
 use Rattle.clfs_manager.proofs.Intact.{writes_stored}
 use Rattle.clfs_manager.proofs.Sealed.{flushed_intact, room_flushed, on_err_by, on_ok_by}
+use Rattle.clfs_manager.proofs.KeptFiles.{files_flushed}
 use Rattle.clfs_manager.proofs.log.Log.write_all.Goals as goal
 
 pub returns-clause-change : goal.returns-clause-change
@@ -27,3 +28,7 @@ returns-clause-change g c =
 
 pub returns-clause-room : goal.returns-clause-room
 returns-clause-room g c = on_ok_by c.write_out.result (room_flushed c.args.self.now c.write_out.new.self) c.write_out.ensures.same
+
+pub returns-clause-files : goal.returns-clause-files
+returns-clause-files g c = on_ok_by c.write_out.result
+    (λ same. files_flushed (g.D.Disk.state c.args.disk.now) (g.D.Disk.state c.write_out.new.disk) _ _ same.physical c.write_out.ensures.lengths) c.write_out.ensures.same

@@ -11,6 +11,7 @@ use Rattle.clfs_manager.proofs.Intact.{writes_as, writes_then}
 use Rattle.clfs_manager.proofs.OwnRefusals.{error_of, writes_refused}
 use Rattle.clfs_manager.proofs.PreparedCall.{as_fault, leaves_step, restart_enough, restart_step}
 use Rattle.clfs_manager.proofs.RestartCall.{left_broken, left_intact}
+use Rattle.clfs_manager.proofs.KeptFiles.{counts_none, counts_then}
 use Rattle.clfs_manager.proofs.log.Log.write_restart.Goals as goal
 
 pub returns-in_err-place-clause-writes : goal.returns-in_err-place-clause-writes
@@ -245,3 +246,23 @@ returns-in_err-prepare-clause-no_memory g c = λ wanting.
     let kept = rw same at wanting in
     c.prepare.ensures.no_memory (subst (λ r. IsErrOf r refusals.NoMemory) (sym c.in_err-prepare.was) (as_fault given refusals.NoMemory kept))
     (bad_line 0) s (c.states_between_survive.ensures.bad_line s 0 c.requires.intact.sound.valid)
+
+pub returns-in_err-place-clause-files : goal.returns-in_err-place-clause-files
+returns-in_err-place-clause-files g c = λ fine.
+    let disk = g.D.Disk.state c.args.disk.now in
+    counts_none disk disk c.args.self.now c.args.self.now c.requires.intact.sound.unbroken refl
+
+pub returns-in_err-prepare-clause-files : goal.returns-in_err-prepare-clause-files
+returns-in_err-prepare-clause-files g c = λ fine.
+    let given : Refusal = c.in_err-prepare.field-0.0 in
+    let same = error_of c.from_residual-in_err-prepare.result given c.from_residual-in_err-prepare.ensures.1 in
+    c.prepare.ensures.files (λ fault.
+    let kept = subst (λ r. IsErrOf r refusals.DiskFault) c.in_err-prepare.was fault in fine (rw same (as_fault given refusals.DiskFault kept)))
+
+pub returns-in-Ok-clause-files : goal.returns-in-Ok-clause-files
+returns-in-Ok-clause-files g c = λ fine.
+    counts_then _ _ _ c.args.self.now c.prepare.new.self c.restart_grown.new.self c.in-Ok.ensures.change.left.sound.unbroken
+    (c.in_ok-prepare.ensures.files (λ f. cc f)) c.in-Ok.ensures.files
+
+pub returns-in-Err-clause-files : goal.returns-in-Err-clause-files
+returns-in-Err-clause-files g c = λ fine. absurd (fine refl)

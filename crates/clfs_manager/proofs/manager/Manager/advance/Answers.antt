@@ -8,6 +8,7 @@ use Rattle.clfs_manager.proofs.AdvancedLog.{advanced_step}
 use Rattle.clfs_manager.proofs.FlushKeeps.{on_ok, on_err, managed_broken}
 use Rattle.clfs_manager.proofs.Intact.{managed_intact, writes_as, writes_seen}
 use Rattle.clfs_manager.proofs.CurrentCopy.{current_on_disk}
+use Rattle.clfs_manager.proofs.KeptFiles.{copy_of_call, counts_kept}
 use Rattle.clfs_manager.proofs.manager.Manager.advance.Goals as goal
 
 pub advance-requires-clause-valid : goal.advance-requires-clause-valid
@@ -82,10 +83,14 @@ returns-clause-call g c =
     (flush_survives c.states_between_survive.ensures.advance s c.args.client c.args.area c.args.lsn managed.valid managed.storable
     (managed.broken ∙ c.if-self.false) c.in-Ok.ensures.allowed)) moved) in
     let ok = sym c.is_err.ensures.value ∙ c.if-is_err.false in
+    let intact = on_ok c.advance.result ok c.advance.ensures.change.left in
     call_done c.calls_follow_laws.ensures.ways g.D.Disk.state c.self.inside.log c.advance.new.self c.self.inside.disk c.advance.new.disk c.args.self.now c.self.view_is c.self.invariant c.if-self.false c.args.client call replies.Base c.args.lsn refl c.in-Ok.ensures.allowed
     (sym (ap (λ (o : Outcome). o.reply) is)) (on_ok c.advance.result ok c.advance.ensures.change.state ∙ sym (ap (λ (o : Outcome). o.state) is))
     (writes_seen g.D.Disk.state (s, c.self.inside.disk) c.args.self.now c.self.view_is _ (g.D.Disk.state c.advance.new.disk)
     (writes_as _ _ (g.D.Disk.state c.self.inside.disk) (g.D.Disk.state c.advance.new.disk) (λ f. absurd (cc (f, ok))) (λ f. absurd (cc f)) c.advance.ensures.change.writes)) moments
+    (copy_of_call g.D.Disk.state c.self.inside.log c.advance.new.self c.self.inside.disk c.advance.new.disk c.args.self.now c.self.view_is c.self.invariant c.if-self.false
+    (λ _. intact.opened) c.advance.ensures.change.writes.time.nature _
+    (λ fine. counts_kept _ _ c.self.inside.log c.advance.new.self intact.sound.unbroken (on_ok c.advance.result ok c.advance.ensures.files)))
 
 pub returns-clause-current : goal.returns-clause-current
 returns-clause-current g c =

@@ -6,6 +6,7 @@ use Rattle.clfs_manager.proofs.OwnRefusals.{error_of}
 use Rattle.clfs_model.specs.declared.call.Call.TheVariants as calls
 use Rattle.clfs_model.specs.declared.reply.Reply.TheVariants as replies
 use Rattle.clfs_manager.proofs.FlushKeeps.{is_above, is_later, on_ok, on_err, managed_broken, managed_flushed}
+use Rattle.clfs_manager.proofs.KeptFiles.{files_flushed}
 use Rattle.clfs_manager.proofs.manager.Manager.flush_to.Goals as goal
 
 asked_to : (lsn stable : ℕ) (pending : Bool) → nat_lt lsn stable ≡ false → pending ≡ true → (nat_le stable lsn && pending) ≡ true
@@ -71,3 +72,5 @@ returns-clause-call g c =
     (rw later (ap replies.Flushed (flushed_written c.self.inside.log.state.value c.write_out.new.self c.flushed.result (on_ok c.write_out.result (sym c.is_err.ensures.value ∙ c.if-is_err.false) c.write_out.ensures.change.state)
     (on_ok c.write_out.result (sym c.is_err.ensures.value ∙ c.if-is_err.false) c.write_out.ensures.change.holds) c.flushed.ensures.none))) (rw later refl)
     c.write_out.result (sym c.is_err.ensures.value ∙ c.if-is_err.false) c.write_out.ensures.change.state c.write_out.ensures.change.stored c.write_out.ensures.change.meanwhile c.write_out.ensures.change.calls.time c.write_out.ensures.change.calls.steady
+    (invariant_of-self-2 g c) (on_ok c.write_out.result (sym c.is_err.ensures.value ∙ c.if-is_err.false) c.write_out.ensures.same).broken
+    (files_flushed (g.D.Disk.state c.self.inside.disk) (g.D.Disk.state c.write_out.new.disk) _ _ (on_ok c.write_out.result (sym c.is_err.ensures.value ∙ c.if-is_err.false) c.write_out.ensures.same).physical c.write_out.ensures.lengths)

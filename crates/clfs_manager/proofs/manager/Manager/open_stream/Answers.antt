@@ -10,6 +10,7 @@ use Rattle.clfs_model.specs.declared.call.Call.TheVariants as calls
 use Rattle.clfs_model.specs.declared.reply.Reply.TheVariants as replies
 use Rattle.clfs_manager.proofs.AddedStream.{managed_added, new_step}
 use Rattle.clfs_manager.proofs.CurrentCopy.{current_answered}
+use Rattle.clfs_manager.proofs.KeptFiles.{copy_of_call}
 use Rattle.clfs_manager.proofs.manager.Manager.open_stream.Goals as goal
 
 passes : (s : State) (given name : List ℕ) (found : Option Refusal) → given ≡ name → found ≡ open_refusal s given → found ≡ None → open_refusal s name ≡ None
@@ -110,6 +111,8 @@ returns-clause-call g c =
     (λ want. crash_not_called c.calls_follow_laws.ensures.crashes g.D.Disk.state c.self.inside.log c.self.inside.disk c.add_stream.new.disk c.args.self.now c.self.view_is c.self.invariant
     (c.add_stream.ensures.no_memory want))
     (not_own _ (g.D.Disk.state c.add_stream.new.disk) c.self.inside.log c.add_stream.new.self c.add_stream.result c.add_stream.ensures.refused)
+    (copy_of_call g.D.Disk.state c.self.inside.log c.add_stream.new.self c.self.inside.disk c.add_stream.new.disk c.args.self.now c.self.view_is c.self.invariant c.if-self.false
+    (invariant_of-self g c).whole c.add_stream.ensures.writes.time.nature _ c.add_stream.ensures.files)
 
 pub returns-clause-current : goal.returns-clause-current
 returns-clause-current g c = λ called. current_answered c.add_stream.result (g.D.Disk.state c.add_stream.new.disk) c.add_stream.new.self

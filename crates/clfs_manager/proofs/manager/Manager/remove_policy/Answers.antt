@@ -56,6 +56,7 @@ pub returns-clause-call : goal.returns-clause-call
 returns-clause-call g c = λ client. stored_done c.calls_follow_laws.ensures.crashes c.calls_follow_laws.ensures.ways c.calls_follow_laws.ensures.valid g.D.Disk.state c.self.inside.log c.store_policies.new.self c.self.inside.disk c.store_policies.new.disk c.args.self.now c.self.view_is c.self.invariant c.if-self.false client
     (calls.RemovePolicy c.args.kind) (λ _. replies.Done) tt refl (with_policies c.in-Some.policies c.self.inside.log.state.value) (rw c.in-Some.ensures.some refl) refl (sym c.in-Some.ensures.state)
     c.store_policies.result (sym c.is_err.ensures.value ∙ c.if-is_err.false) c.store_policies.ensures.change.state c.store_policies.ensures.change.stored c.store_policies.ensures.change.meanwhile c.store_policies.ensures.change.calls.time c.store_policies.ensures.change.calls.steady
+    (invariant_of-self-2 g c) (on_ok c.store_policies.result (sym c.is_err.ensures.value ∙ c.if-is_err.false) c.store_policies.ensures.same).broken (on_ok c.store_policies.result (sym c.is_err.ensures.value ∙ c.if-is_err.false) c.store_policies.ensures.files)
 
 pub returns-clause-current : goal.returns-clause-current
 returns-clause-current g c =

@@ -9,6 +9,7 @@ use Rattle.clfs_manager.proofs.Intact.{intact_managed, managed_intact, writes_se
 use Rattle.clfs_manager.proofs.Numbers.{free_is_small}
 use Rattle.clfs_manager.proofs.OwnRefusals.{error_of}
 use Rattle.clfs_manager.proofs.Reserved.{fault_grows, held_within, intact_after, reserve_judged, reserve_step}
+use Rattle.clfs_manager.proofs.KeptFiles.{copy_of_call, counts_then, files_before, files_kept, not_faulted}
 use Rattle.clfs_manager.proofs.manager.Manager.reserve.Goals as goal
 
 pub grow-requires-clause-intact : goal.grow-requires-clause-intact
@@ -121,6 +122,11 @@ returns-in-Ok-clause-call g c =
     (subst (λ (t : State). Step told s c.args.client call Fine (replies.Held (area.held + own_sum sizes)) t) (sym leaves)
     (reserve_step c.calls_follow_laws.ensures.ways told s c.args.client c.args.area area sizes (c.self.invariant.broken ∙ c.if-self.false) none c.in_ok-place.ensures.there)))
     (sized_fine c.grow.result _ _ (g.D.Disk.state c.self.inside.disk) (g.D.Disk.state c.grow.new.disk) c.in-Ok.is c.grow.ensures.change.writes) moments (λ want. absurd (cc want)) tt
+    (copy_of_call g.D.Disk.state old c.hold_sizes.new.self c.self.inside.disk c.grow.new.disk c.args.self.now c.self.view_is c.self.invariant c.if-self.false
+    (invariant_of-self g c).whole c.grow.ensures.change.writes.time.nature _ (λ fine.
+    let behind = g.D.Disk.state c.grow.new.disk in
+    counts_then _ behind behind old new c.hold_sizes.new.self c.hold_sizes.ensures.sound.unbroken (c.in-Ok.ensures.change.files (λ f. cc f))
+    (files_before behind behind new.physical new.physical c.hold_sizes.new.self.physical c.hold_sizes.ensures.areas.physical (files_kept behind new.physical))))
 
 pub returns-in-Err-DiskFault-clause-call : goal.returns-in-Err-DiskFault-clause-call
 returns-in-Err-DiskFault-clause-call g c =
@@ -164,3 +170,5 @@ returns-in-Err-NoMemory-clause-call g c =
     (sized_starved c.grow.result (g.D.Disk.state c.self.inside.disk) (g.D.Disk.state c.grow.new.disk) (c.in-Err-NoMemory.is ∙ ap (λ e. Err e) c.in-Err-NoMemory.field-0-is) c.grow.ensures.change.writes)) moments
     (crash_not_grown c.calls_follow_laws.ensures.crashes g.D.Disk.state c.self.inside.log c.self.inside.disk c.args.self.now c.self.view_is c.self.invariant (g.D.Disk.state c.grow.new.disk)
     (done.change.old_size refl))
+    (copy_of_call g.D.Disk.state old c.grow.new.self c.self.inside.disk c.grow.new.disk c.args.self.now c.self.view_is c.self.invariant c.if-self.false
+    (invariant_of-self-in-Err-NoMemory g c).whole c.grow.ensures.change.writes.time.nature _ (λ fine. done.change.files not_faulted))

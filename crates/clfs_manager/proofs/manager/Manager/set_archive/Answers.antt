@@ -92,6 +92,7 @@ pub returns-clause-call : goal.returns-clause-call
 returns-clause-call g c = λ client. stored_done c.calls_follow_laws.ensures.crashes c.calls_follow_laws.ensures.ways c.calls_follow_laws.ensures.valid g.D.Disk.state c.self.inside.log c.change_archive.new.self c.self.inside.disk c.change_archive.new.disk c.args.self.now c.self.view_is c.self.invariant c.if-self.false client
     (calls.SetArchive c.args.on) (λ _. replies.Done) tt refl (with_archive c.archive_for-tail.result c.self.inside.log.state.value) refl refl (sym c.archive_for-tail.ensures)
     c.change_archive.result (sym c.is_err.ensures.value ∙ c.if-is_err.false) c.change_archive.ensures.change.state c.change_archive.ensures.change.stored c.change_archive.ensures.change.meanwhile c.change_archive.ensures.change.calls.time c.change_archive.ensures.change.calls.steady
+    (invariant_of-self-2 g c) (on_ok c.change_archive.result (sym c.is_err.ensures.value ∙ c.if-is_err.false) c.change_archive.ensures.same).broken (on_ok c.change_archive.result (sym c.is_err.ensures.value ∙ c.if-is_err.false) c.change_archive.ensures.files)
 
 pub returns-clause-current : goal.returns-clause-current
 returns-clause-current g c = λ called.

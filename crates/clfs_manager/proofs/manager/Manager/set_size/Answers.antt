@@ -8,6 +8,7 @@ use Rattle.clfs_model.specs.declared.reply.Reply.TheVariants as replies
 use Rattle.clfs_manager.proofs.FlushKeeps.{managed_broken}
 use Rattle.clfs_manager.proofs.Intact.{intact_managed, managed_intact, writes_seen}
 use Rattle.clfs_manager.proofs.CurrentCopy.{current_answered}
+use Rattle.clfs_manager.proofs.KeptFiles.{copy_of_call, not_faulted}
 use Rattle.clfs_manager.proofs.manager.Manager.set_size.Goals.{in-Ok, in-Err-DiskFault, in-Err-NoMemory}
 use Rattle.clfs_manager.proofs.manager.Manager.set_size.Goals as goal
 
@@ -71,7 +72,9 @@ returns-clause-call g c = λ client.
     elim c.match-resize.branch [
       | in-Ok w ↦ subst Writes (sym w.result-is) (call_done c.calls_follow_laws.ensures.ways g.D.Disk.state c.self.inside.log c.resize.new.self c.self.inside.disk c.resize.new.disk c.args.self.now c.self.view_is c.self.invariant c.if-self.false
           client call replies.Containers c.args.containers refl none refl w.in-Ok.ensures.change.state
-          (writes_seen g.D.Disk.state (s, c.self.inside.disk) c.args.self.now c.self.view_is _ new (sized_fine c.resize.result w.in-Ok.field-0 c.args.containers old new w.in-Ok.is c.resize.ensures.change.writes)) moments)
+          (writes_seen g.D.Disk.state (s, c.self.inside.disk) c.args.self.now c.self.view_is _ new (sized_fine c.resize.result w.in-Ok.field-0 c.args.containers old new w.in-Ok.is c.resize.ensures.change.writes)) moments
+          (copy_of_call g.D.Disk.state c.self.inside.log c.resize.new.self c.self.inside.disk c.resize.new.disk c.args.self.now c.self.view_is c.self.invariant c.if-self.false
+          (invariant_of-self g c).whole c.resize.ensures.change.writes.time.nature _ (λ fine. w.in-Ok.ensures.change.files (λ f. cc f))))
       | in-Err-DiskFault w ↦
           let done = rw w.in-Err-DiskFault.field-0-is at w.in-Err-DiskFault.ensures in
           subst Writes (sym w.result-is) (call_faulted c.calls_follow_laws.ensures.ways g.D.Disk.state c.self.inside.log c.resize.new.self c.self.inside.disk c.resize.new.disk c.args.self.now c.self.view_is c.self.invariant c.if-self.false
@@ -83,7 +86,9 @@ returns-clause-call g c = λ client.
           client call replies.Containers refl (ap (λ (log : Log). log.state.value) (done.change.no_memory refl))
           (writes_seen g.D.Disk.state (s, c.self.inside.disk) c.args.self.now c.self.view_is _ new (sized_starved c.resize.result old new (w.in-Err-NoMemory.is ∙ ap (λ e. Err e) w.in-Err-NoMemory.field-0-is) c.resize.ensures.change.writes)) moments
           (crash_not_grown c.calls_follow_laws.ensures.crashes g.D.Disk.state c.self.inside.log c.self.inside.disk c.args.self.now c.self.view_is c.self.invariant new
-          (done.change.old_size refl)))
+          (done.change.old_size refl))
+          (copy_of_call g.D.Disk.state c.self.inside.log c.resize.new.self c.self.inside.disk c.resize.new.disk c.args.self.now c.self.view_is c.self.invariant c.if-self.false
+          (invariant_of-self g c).whole c.resize.ensures.change.writes.time.nature _ (λ fine. done.change.files not_faulted)))
     ]
 
 pub returns-clause-current : goal.returns-clause-current

@@ -1,7 +1,8 @@
 use Rattle.clfs_manager.proofs.Words.{ℕ, refl, sym, subst, LogEntry, Unchanged, Passes}
 use Rattle.clfs_model.specs.declared.reply.Reply.TheVariants as replies
 use Rattle.clfs_manager.proofs.ReadKeeps.{still as still_passes}
-use Rattle.clfs_manager.proofs.StepCalls.{no_memory_by, place_by, said, stepped, undamaged, still, written, refused_by}
+use Rattle.clfs_manager.proofs.KeptFiles.{copy_stays, copy_unchanged}
+use Rattle.clfs_manager.proofs.StepCalls.{copied, copy_same, no_memory_by, place_by, said, stepped, undamaged, still, written, refused_by}
 use Rattle.clfs_manager.proofs.manager.Manager.step.Goals as goal
 
 pub returns-in-OpenStream-clause-damage : goal.returns-in-OpenStream-clause-damage
@@ -518,3 +519,72 @@ returns-in-SetSize-clause-place g c = rw c.in-SetSize.is (λ _ _. tt)
 
 pub returns-in-Info-clause-place : goal.returns-in-Info-clause-place
 returns-in-Info-clause-place g c = rw c.in-Info.is (λ _ _. tt)
+
+pub returns-in-OpenStream-clause-copy : goal.returns-in-OpenStream-clause-copy
+returns-in-OpenStream-clause-copy g c = copied replies.Stream _ _ _ _ (said _ _ _ c.reply_of.ensures.exact) c.open_stream.ensures.call.copy
+
+pub returns-in-CreateArea-clause-copy : goal.returns-in-CreateArea-clause-copy
+returns-in-CreateArea-clause-copy g c = copy_same g.D.Disk.state _ _ _ c.create_area.ensures.disk
+
+pub returns-in-DeleteArea-clause-copy : goal.returns-in-DeleteArea-clause-copy
+returns-in-DeleteArea-clause-copy g c = copy_same g.D.Disk.state _ _ _ c.delete_area.ensures.disk
+
+pub returns-in-Reserve-clause-copy : goal.returns-in-Reserve-clause-copy
+returns-in-Reserve-clause-copy g c = copied replies.Held _ _ _ _ (said _ _ _ c.reply_of-in-Reserve.ensures.exact) c.reserve.ensures.call.copy
+
+pub returns-in-Release-clause-copy : goal.returns-in-Release-clause-copy
+returns-in-Release-clause-copy g c = copy_same g.D.Disk.state _ _ _ c.release.ensures.disk
+
+pub returns-in-Align-clause-copy : goal.returns-in-Align-clause-copy
+returns-in-Align-clause-copy g c = copy_stays _ (g.D.Disk.state c.args.self.now.1)
+
+pub returns-in-Append-clause-copy : goal.returns-in-Append-clause-copy
+returns-in-Append-clause-copy g c = copied replies.Placed _ _ _ _ (said _ _ _ c.reply_of-in-Append.ensures.exact) c.append.ensures.call.copy
+
+pub returns-in-Flush-clause-copy : goal.returns-in-Flush-clause-copy
+returns-in-Flush-clause-copy g c = copied replies.Flushed _ _ _ _ (said _ _ _ c.reply_of-in-Flush.ensures.exact) c.flush.ensures.call.copy
+
+pub returns-in-FlushTo-clause-copy : goal.returns-in-FlushTo-clause-copy
+returns-in-FlushTo-clause-copy g c = copied replies.Flushed _ _ _ _ (said _ _ _ c.reply_of-in-FlushTo.ensures.exact) c.flush_to.ensures.call.copy
+
+pub returns-in-Read-clause-copy : goal.returns-in-Read-clause-copy
+returns-in-Read-clause-copy g c = copy_unchanged _ _ _ c.read.ensures.same
+
+pub returns-in-ReadNext-clause-copy : goal.returns-in-ReadNext-clause-copy
+returns-in-ReadNext-clause-copy g c = copy_unchanged _ _ _ c.read_next.ensures.same
+
+pub returns-in-EndRead-clause-copy : goal.returns-in-EndRead-clause-copy
+returns-in-EndRead-clause-copy g c = copy_same g.D.Disk.state _ _ _ c.end_read.ensures.disk
+
+pub returns-in-WriteRestart-clause-copy : goal.returns-in-WriteRestart-clause-copy
+returns-in-WriteRestart-clause-copy g c = copied replies.Placed _ _ _ _ (said _ _ _ c.reply_of-in-WriteRestart.ensures.exact) c.write_restart.ensures.call.copy
+
+pub returns-in-ReadRestart-clause-copy : goal.returns-in-ReadRestart-clause-copy
+returns-in-ReadRestart-clause-copy g c = copy_unchanged _ _ _ c.read_restart.ensures.same
+
+pub returns-in-PreviousRestart-clause-copy : goal.returns-in-PreviousRestart-clause-copy
+returns-in-PreviousRestart-clause-copy g c = copy_unchanged _ _ _ c.previous_restart.ensures.same
+
+pub returns-in-Advance-clause-copy : goal.returns-in-Advance-clause-copy
+returns-in-Advance-clause-copy g c = copied replies.Base _ _ _ _ (said _ _ _ c.reply_of-in-Advance.ensures.exact) c.advance.ensures.call.copy
+
+pub returns-in-SetArchive-clause-copy : goal.returns-in-SetArchive-clause-copy
+returns-in-SetArchive-clause-copy g c = copied (λ _. replies.Done) _ _ _ _ (said _ _ _ c.reply_of-in-SetArchive.ensures.exact) (c.set_archive.ensures.call c.args.client).copy
+
+pub returns-in-SetArchiveTail-clause-copy : goal.returns-in-SetArchiveTail-clause-copy
+returns-in-SetArchiveTail-clause-copy g c = copied replies.Tail _ _ _ _ (said _ _ _ c.reply_of-in-SetArchiveTail.ensures.exact) (c.set_archive_tail.ensures.call c.args.client).copy
+
+pub returns-in-ListExtents-clause-copy : goal.returns-in-ListExtents-clause-copy
+returns-in-ListExtents-clause-copy g c = copy_stays _ (g.D.Disk.state c.args.self.now.1)
+
+pub returns-in-InstallPolicy-clause-copy : goal.returns-in-InstallPolicy-clause-copy
+returns-in-InstallPolicy-clause-copy g c = copied (λ _. replies.Done) _ _ _ _ (said _ _ _ c.reply_of-in-InstallPolicy.ensures.exact) (c.install_policy.ensures.call c.args.client).copy
+
+pub returns-in-RemovePolicy-clause-copy : goal.returns-in-RemovePolicy-clause-copy
+returns-in-RemovePolicy-clause-copy g c = copied (λ _. replies.Done) _ _ _ _ (said _ _ _ c.reply_of-in-RemovePolicy.ensures.exact) (c.remove_policy.ensures.call c.args.client).copy
+
+pub returns-in-SetSize-clause-copy : goal.returns-in-SetSize-clause-copy
+returns-in-SetSize-clause-copy g c = copied replies.Containers _ _ _ _ (said _ _ _ c.reply_of-in-SetSize.ensures.exact) (c.set_size.ensures.call c.args.client).copy
+
+pub returns-in-Info-clause-copy : goal.returns-in-Info-clause-copy
+returns-in-Info-clause-copy g c = copy_stays _ (g.D.Disk.state c.args.self.now.1)

@@ -1,0 +1,5 @@
+mod Passing
+mod Tables
+mod Fronts
+mod Carried
+mod Noted
