@@ -11,13 +11,13 @@ use Rattle.clfs_manager.specs.Reopening.{HoldsFlushed}
 use Rattle.clfs_operations.specs.Loaded.{IsKeptOn, IsTakenFrom}
 use Rattle.clfs_operations.specs.Race.{LeavesFiles}
 use Rattle.clfs_operations.specs.Unopened.{EndsUnopened}
-use Rattle.clfs_share.specs.declared.clients.ClientEnd.{ClientEnd}
+use Rattle.clfs_share.specs.declared.pairs.ClientEnd.{ClientEnd}
 use Rattle.clfs_share.specs.Ended.{is_any_served}
 use Rattle.clfs_engine.specs.Share.{Serving, IsShared, EndsSharing, served_status}
 use Rattle.clfs_engine.proofs.Unserved.{same_state}
 
 -- a status that is none of three
-none_of : (status k : ℕ) → status ≡ k → (k ≡ 3 → ⊥) → (k ≡ 5 → ⊥) → (k ≡ 6 → ⊥) → (status ≡ 3) ⊎ ((status ≡ 5) ⊎ (status ≡ 6)) → ⊥
+pub none_of : (status k : ℕ) → status ≡ k → (k ≡ 3 → ⊥) → (k ≡ 5 → ⊥) → (k ≡ 6 → ⊥) → (status ≡ 3) ⊎ ((status ≡ 5) ⊎ (status ≡ 6)) → ⊥
 none_of status k is no_three no_five no_six (inl e) = no_three (sym is ∙ e)
 none_of status k is no_three no_five no_six (inr (inl e)) = no_five (sym is ∙ e)
 none_of status k is no_three no_five no_six (inr (inr e)) = no_six (sym is ∙ e)
@@ -106,13 +106,13 @@ module _ (Serves : Serving) (buffers : ℕ) (old new : DiskState) (s t : State) 
       }
 
 -- no status of a log that wasn't opened
-not_done : (status : ℕ) → (status ≡ 3) ⊎ ((status ≡ 4) ⊎ ((status ≡ 5) ⊎ (status ≡ 6))) → status ≡ 0 → ⊥
+pub not_done : (status : ℕ) → (status ≡ 3) ⊎ ((status ≡ 4) ⊎ ((status ≡ 5) ⊎ (status ≡ 6))) → status ≡ 0 → ⊥
 not_done status (inl e) f = omega (arith, e, f)
 not_done status (inr (inl e)) f = omega (arith, e, f)
 not_done status (inr (inr (inl e))) f = omega (arith, e, f)
 not_done status (inr (inr (inr e))) f = omega (arith, e, f)
 
-not_ended : (status : ℕ) → (status ≡ 3) ⊎ ((status ≡ 4) ⊎ ((status ≡ 5) ⊎ (status ≡ 6))) → status ≡ 18 → ⊥
+pub not_ended : (status : ℕ) → (status ≡ 3) ⊎ ((status ≡ 4) ⊎ ((status ≡ 5) ⊎ (status ≡ 6))) → status ≡ 18 → ⊥
 not_ended status (inl e) f = omega (arith, e, f)
 not_ended status (inr (inl e)) f = omega (arith, e, f)
 not_ended status (inr (inr (inl e))) f = omega (arith, e, f)

@@ -6,9 +6,9 @@ use Rattle.std.proofs.lemmas.Bool.Decides.{nat_tests}
 use Rattle.clfs_model.specs.declared.journal.Entry.{Entry}
 use Rattle.clfs_model.specs.declared.state.State.{State}
 use Rattle.clfs_model.specs.Journals.{IsLegal, mine}
-use Rattle.clfs_share.specs.declared.clients.ClientEnd.{ClientEnd}
-use Rattle.clfs_share.specs.declared.clients.ClientEnd.TheVariants.{Served, NotOpened, NoThread}
-use Rattle.clfs_share.specs.declared.clients.EndedClient.{EndedClient}
+use Rattle.clfs_share.specs.declared.pairs.ClientEnd.{ClientEnd}
+use Rattle.clfs_share.specs.declared.pairs.ClientEnd.TheVariants.{Served, NotOpened, NoThread}
+use Rattle.clfs_share.specs.declared.pairs.EndedClient.{EndedClient}
 use Rattle.clfs_share.specs.declared.openers.Openers as Openers
 use Rattle.clfs_share.specs.Ended.{ends_of, is_served, is_any_served}
 use Rattle.clfs_share.specs.Taken.{AreTaken, IsOfClients, IsTakenAs}

@@ -10,8 +10,8 @@ use Rattle.clfs_manager.specs.Reopening.{HoldsFlushed}
 use Rattle.clfs_command.specs.Share.{Paths}
 use Rattle.clfs_share.specs.Ended.{is_any_served}
 use Rattle.clfs_share.specs.Taken.{AreTaken, IsOfClients}
-use Rattle.clfs_share.specs.declared.clients.ClientEnd.{ClientEnd}
-use Rattle.clfs_share.specs.declared.clients.EndedClient.{EndedClient}
+use Rattle.clfs_share.specs.declared.pairs.ClientEnd.{ClientEnd}
+use Rattle.clfs_share.specs.declared.pairs.EndedClient.{EndedClient}
 use Rattle.clfs_share.specs.declared.openers.Openers as Openers
 use Rattle.clfs_lines.specs.Answering.{Writes, WritesFront}
 use Rattle.clfs_operations.specs.Ends.{disk_fault_text}

@@ -79,33 +79,48 @@ lines_made client s t (line ∷ lines) (text ∷ texts) is each =
     one_made client s mid t line text lines texts is each.1.0
     (lines_made client mid t lines texts ((line_same s mid line text each.1.0).client ∙ is) each.1.1)
 
--- ---- the session stays the same
+-- ---- what lines made, however they ended
+
+-- some lines were answered one after the other
+record SomeMade (s t : SessionState) : Type 0 where
+  pub lines : List (List ℕ)
+  pub texts : List (List ℕ)
+  pub made : LinesMade s.client s t lines texts
 
 module _ (s t : SessionState) where
-  through_same : (lines : List (List ℕ)) (text : List ℕ) → AnswersThrough AnswersLine s t lines text → IsSameSeat s t
-  through_same lines text through = (lines_made s.client s t lines through.replies refl through.each).same
+  through_made : (lines : List (List ℕ)) (text : List ℕ) → AnswersThrough AnswersLine s t lines text → SomeMade s t
+  through_made lines text through =
+      record { lines = lines; texts = through.replies; made = lines_made s.client s t lines through.replies refl through.each }
 
-  part_same : (torn : Bool) (lines : List (List ℕ)) (text : List ℕ) → AnswersInPart AnswersLine s t torn lines text → IsSameSeat s t
-  part_same torn lines text part = (lines_made s.client s t lines part.replies refl part.each).same
+  part_made : (torn : Bool) (lines : List (List ℕ)) (text : List ℕ) → AnswersInPart AnswersLine s t torn lines text → SomeMade s t
+  part_made torn lines text part =
+      record { lines = lines; texts = part.replies; made = lines_made s.client s t lines part.replies refl part.each }
 
 module _ (s t : SessionState) (limits : Limits) (status : ℕ) (left left' written written' : Option (List ℕ)) (source source' sink sink' : ℕ) where
   abbrev Ends : Type 0
   Ends = EndsAnswering limits Dropped (AnswersThrough AnswersLine s t) (AnswersInPart AnswersLine s t) status left left' written written' source source' sink sink'
 
-  at_fault_same : StopsAtFault limits Dropped (AnswersThrough AnswersLine s t) (AnswersInPart AnswersLine s t) left left' written written' → IsSameSeat s t
-  at_fault_same (inl stops) = part_same s t true stops.0 stops.1.1.0 stops.1.1.1
-  at_fault_same (inr cut) = through_same s t (accepted limits cut.1.bytes) cut.1.output cut.1.answered
+  at_fault_made : StopsAtFault limits Dropped (AnswersThrough AnswersLine s t) (AnswersInPart AnswersLine s t) left left' written written' → SomeMade s t
+  at_fault_made (inl stops) = part_made s t true stops.0 stops.1.1.0 stops.1.1.1
+  at_fault_made (inr cut) = through_made s t (accepted limits cut.1.bytes) cut.1.output cut.1.answered
 
-  by_status : Ends → IsAnswerStatus status → IsSameSeat s t
-  by_status ends (inl e) = let found = ends.done e in through_same s t _ found.0 found.1.answered
-  by_status ends (inr (inl e)) = let found = ends.source_fault_answers e in through_same s t _ found.0 found.1.answered
-  by_status ends (inr (inr (inl e))) = at_fault_same (ends.sink_fault_front e)
-  by_status ends (inr (inr (inr (inl e)))) = let stops = ends.no_memory e in part_same s t false stops.0 stops.1.1.0 stops.1.1.1
-  by_status ends (inr (inr (inr (inr e)))) = let found = ends.too_long e in through_same s t _ found.1.answered.output found.1.answered.answered
+  by_status : Ends → IsAnswerStatus status → SomeMade s t
+  by_status ends (inl e) = let found = ends.done e in through_made s t _ found.0 found.1.answered
+  by_status ends (inr (inl e)) = let found = ends.source_fault_answers e in through_made s t _ found.0 found.1.answered
+  by_status ends (inr (inr (inl e))) = at_fault_made (ends.sink_fault_front e)
+  by_status ends (inr (inr (inr (inl e)))) = let stops = ends.no_memory e in part_made s t false stops.0 stops.1.1.0 stops.1.1.1
+  by_status ends (inr (inr (inr (inr e)))) = let found = ends.too_long e in through_made s t _ found.1.answered.output found.1.answered.answered
+
+  some_made : Ends → SomeMade s t
+  some_made ends = by_status ends ends.statuses
 
   -- the session is the same however its lines ended
   pub ends_same : Ends → IsSameSeat s t
-  ends_same ends = by_status ends ends.statuses
+  ends_same ends = (some_made ends).made.same
+
+  -- and its own entries became more by the calls that these lines gave
+  pub ends_grew : Ends → (calls : List Made) × (all_made (own_entries t) ≡ all_made (own_entries s) ++ calls)
+  ends_grew ends = let some = some_made ends in (calls_made (own_requests s.client some.lines) some.made.answers, some.made.entries)
 
 -- ---- one client
 

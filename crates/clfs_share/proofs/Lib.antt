@@ -7,3 +7,4 @@ pub mod Replying
 pub mod Ending
 pub mod Taking
 pub mod Returning
+pub mod Visiting

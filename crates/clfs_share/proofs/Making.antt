@@ -1,6 +1,6 @@
 -- The calls that one request more gives, and what they add to a session's own entries.
 use Rattle.std.proofs.Common.{◌≡◌, ℕ, ◌+◌, Bool, true, false, refl, sym, ap, subst, ◌∙◌, inl, inr, List, [], ◌∷◌, ◌++◌, length, append-nil, arith, length-append, le_trans}
-use Rattle.std.specs.Prelude.{◌⊎◌, ◌≤◌, if◌then◌else◌, OnErr, Ok, Err, Result}
+use Rattle.std.specs.Prelude.{◌⊎◌, ◌≤◌, if◌then◌else◌, IfOk, OnErr, Ok, Err, Result}
 use Rattle.std.proofs.lemmas.List.{length-map, map-append}
 use Rattle.clfs_model.specs.declared.call.Call.{Call}
 use Rattle.clfs_model.specs.declared.journal.Entry.{Entry}
@@ -116,3 +116,8 @@ begins_with entries others more are =
 pub if_refused : {A E : Type 0} {P : Type 0} (r : Result A E) → P → OnErr r P
 if_refused (Ok x) is = tt
 if_refused (Err e) is = is
+
+-- what two facts on a result give together
+pub both_ok : {A E : Type 0} (r : Result A E) (P Q R : A → Type 0) → ((x : A) → P x → Q x → R x) → IfOk r P → IfOk r Q → IfOk r R
+both_ok (Ok x) P Q R also first second = also x first second
+both_ok (Err e) P Q R also first second = tt

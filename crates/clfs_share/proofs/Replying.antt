@@ -1,5 +1,5 @@
 -- A client's answers told by its calls.
-use Rattle.std.proofs.Common.{◌≡◌, ℕ, Bool, true, false, refl, sym, ap, subst, ◌∙◌, inl, inr, List, [], ◌++◌, length}
+use Rattle.std.proofs.Common.{◌≡◌, ℕ, Bool, true, false, refl, sym, ap, subst, ◌∙◌, inl, inr, List, [], ◌∷◌, ◌++◌, length}
 use Rattle.std.specs.Prelude.{Option}
 use Rattle.std.specs.List.{concat}
 use Rattle.std.proofs.lemmas.List.{length-map}
@@ -11,11 +11,15 @@ use Rattle.clfs_lines.specs.Through.{AnswersThrough, AnswersInPart}
 use Rattle.clfs_shared.specs.Sessions.{SessionState, own_entries}
 use Rattle.clfs_share.specs.Answered.{AnswersLine}
 use Rattle.clfs_share.specs.Lines.{own_requests}
-use Rattle.clfs_share.specs.Made.{all_made, calls_made, made_of, AreWanted}
-use Rattle.clfs_share.specs.Taken.{IsAnswered, IsAnsweredInPart}
+use Rattle.clfs_share.specs.Made.{Made, all_made, calls_made, made_of, AreWanted}
+use Rattle.clfs_share.specs.Taken.{IsAnswered, IsAnsweredBy, IsAnsweredByInPart, IsAnsweredInPart}
 use Rattle.clfs_share.proofs.Answering.{LinesMade, lines_made}
 
--- ---- a new session's lines
+-- ---- a session's lines
+
+cancel : {A : Type 0} (front xs ys : List A) → front ++ xs ≡ front ++ ys → xs ≡ ys
+cancel [] xs ys is = is
+cancel (first ∷ front) xs ys is = cancel front xs ys (cc is)
 
 -- where memory ran out, by the count of the calls made
 wanted_by : (client : ℕ) (s t : SessionState) (lines texts : List (List ℕ)) (made : LinesMade client s t lines texts)
@@ -24,43 +28,58 @@ wanted_by client s t lines texts made =
     let F : ℕ → Type 0 = λ n. AreWanted n (own_requests client lines) made.answers in
     subst F (sym (length-map (own_entries t) made_of)) made.wanted
 
-pub answered_by : (s t : SessionState) → own_entries s ≡ [] → (lines : List (List ℕ)) (text : List ℕ) → AnswersThrough AnswersLine s t lines text
-    → IsAnswered s.client (all_made (own_entries t)) lines text
-answered_by s t none lines text through = record {
-  answers = made.answers;
-  answered = made.answered;
-  made = sym (made.entries ∙ ap (λ (entries : List Entry). all_made entries ++ calls_made (own_requests s.client lines) made.answers) none);
-  wanted = wanted_by s.client s t lines through.replies made;
-  is = through.is ∙ ap (λ (z : List (List ℕ)). concat z) made.texts_are;
-}
-  where
-    made : LinesMade s.client s t lines through.replies
-    made = lines_made s.client s t lines through.replies refl through.each
-
-pub in_part_by : (s t : SessionState) → own_entries s ≡ [] → (torn : Bool) (lines : List (List ℕ)) (text : List ℕ) → AnswersInPart AnswersLine s t torn lines text
-    → IsAnsweredInPart s.client (all_made (own_entries t)) torn lines text
-in_part_by s t none torn lines text part = record {
-  output = concat part.replies;
-  answered = record {
+-- the calls that came to a session's own entries with its lines
+module _ (s t : SessionState) (calls : List Made) (grew : all_made (own_entries t) ≡ all_made (own_entries s) ++ calls) where
+  pub answered_by : (lines : List (List ℕ)) (text : List ℕ) → AnswersThrough AnswersLine s t lines text
+      → IsAnsweredBy (length (all_made (own_entries t))) s.client calls lines text
+  answered_by lines text through = record {
     answers = made.answers;
     answered = made.answered;
-    made = sym (made.entries ∙ ap (λ (entries : List Entry). all_made entries ++ calls_made (own_requests s.client lines) made.answers) none);
-    wanted = wanted_by s.client s t lines part.replies made;
-    is = ap (λ (z : List (List ℕ)). concat z) made.texts_are;
-  };
-  whole = part.whole;
-  others = part.others;
-  all = part.all ∙ made.texts_are;
-  at_most_one = part.at_most_one;
-  front = part.front;
-  untorn = part.untorn;
-  rest = part.rest;
-  is = part.is;
-  goes_on = part.goes_on;
-}
-  where
-    made : LinesMade s.client s t lines part.replies
-    made = lines_made s.client s t lines part.replies refl part.each
+    made = cancel (all_made (own_entries s)) (calls_made (own_requests s.client lines) made.answers) calls (sym made.entries ∙ grew);
+    wanted = wanted_by s.client s t lines through.replies made;
+    is = through.is ∙ ap (λ (z : List (List ℕ)). concat z) made.texts_are;
+  }
+    where
+      made : LinesMade s.client s t lines through.replies
+      made = lines_made s.client s t lines through.replies refl through.each
+
+  pub in_part_by : (torn : Bool) (lines : List (List ℕ)) (text : List ℕ) → AnswersInPart AnswersLine s t torn lines text
+      → IsAnsweredByInPart (length (all_made (own_entries t))) s.client calls torn lines text
+  in_part_by torn lines text part = record {
+    output = concat part.replies;
+    answered = record {
+      answers = made.answers;
+      answered = made.answered;
+      made = cancel (all_made (own_entries s)) (calls_made (own_requests s.client lines) made.answers) calls (sym made.entries ∙ grew);
+      wanted = wanted_by s.client s t lines part.replies made;
+      is = ap (λ (z : List (List ℕ)). concat z) made.texts_are;
+    };
+    whole = part.whole;
+    others = part.others;
+    all = part.all ∙ made.texts_are;
+    at_most_one = part.at_most_one;
+    front = part.front;
+    untorn = part.untorn;
+    rest = part.rest;
+    is = part.is;
+    goes_on = part.goes_on;
+  }
+    where
+      made : LinesMade s.client s t lines part.replies
+      made = lines_made s.client s t lines part.replies refl part.each
+
+-- the same of a session that had no entries of its own
+module _ (s t : SessionState) (none : own_entries s ≡ []) where
+  alone : all_made (own_entries t) ≡ all_made (own_entries s) ++ all_made (own_entries t)
+  alone = ap (λ (entries : List Entry). all_made entries ++ all_made (own_entries t)) (sym none)
+
+  pub answered_alone : (lines : List (List ℕ)) (text : List ℕ) → AnswersThrough AnswersLine s t lines text
+      → IsAnswered s.client (all_made (own_entries t)) lines text
+  answered_alone = answered_by s t (all_made (own_entries t)) alone
+
+  pub in_part_alone : (torn : Bool) (lines : List (List ℕ)) (text : List ℕ) → AnswersInPart AnswersLine s t torn lines text
+      → IsAnsweredInPart s.client (all_made (own_entries t)) torn lines text
+  in_part_alone = in_part_by s t (all_made (own_entries t)) alone
 
 -- ---- other words for the same answers
 

@@ -1,7 +1,6 @@
 -- What a journal has of a client that ended.
 use Rattle.std.proofs.Common.{◌≡◌, ℕ, ◌+◌, Bool, refl, sym, ap, subst, ◌∙◌, List, [], ◌∷◌, ◌++◌, length, map}
 use Rattle.std.specs.Prelude.{All, Option, Some, None}
-use Rattle.std.specs.List.{AllByRecursion, range_with_len}
 use Rattle.std.specs.Option.{option_map}
 use Rattle.clfs_lsn.specs.Limits.{most_areas}
 use Rattle.clfs_model.specs.declared.journal.Entry.{Entry}
@@ -15,18 +14,19 @@ use Rattle.clfs_lines.specs.Through.{AnswersThrough, AnswersInPart}
 use Rattle.clfs_shared.specs.declared.opening.Opening.{Opening}
 use Rattle.clfs_shared.specs.Journal.{client_of}
 use Rattle.clfs_shared.specs.Sessions.{SessionState, own_entries}
-use Rattle.clfs_share.specs.declared.clients.Client.{Client}
-use Rattle.clfs_share.specs.declared.clients.ClientEnd.{ClientEnd}
-use Rattle.clfs_share.specs.declared.clients.ClientEnd.TheVariants.{Served, NotOpened, NoThread}
+use Rattle.clfs_share.specs.declared.pairs.ClientEnd.{ClientEnd}
+use Rattle.clfs_share.specs.declared.pairs.ClientEnd.TheVariants.{Served, NotOpened, NoThread}
+use Rattle.clfs_share.specs.declared.pairs.EndedClient.{EndedClient}
 use Rattle.clfs_share.specs.Answered.{AnswersLine}
 use Rattle.clfs_share.specs.declared.openers.Openers as Openers
-use Rattle.clfs_share.specs.Ended.{EndsAs, HasEnded, HaveEnded, openers_of, ended_of}
+use Rattle.clfs_share.specs.Ended.{EndsAs}
+use Rattle.clfs_share.specs.Heard.{AreHeard, Serves, WasHeard}
 use Rattle.clfs_share.specs.Left.{deletions, own_row, EndsArea}
 use Rattle.clfs_share.specs.Made.{all_made, calls_made, AreReplies}
 use Rattle.clfs_lines.specs.declared.incomplete.IncompleteLine.TheVariants.{Dropped}
 use Rattle.clfs_share.specs.Served.{IsServed, client_limits}
 use Rattle.clfs_share.specs.Taken.{AreTaken, IsAnswered, IsAnsweredInPart, IsTaken, IsTakenAs}
-use Rattle.clfs_share.proofs.Replying.{answered_by, ends_as, in_part_by}
+use Rattle.clfs_share.proofs.Replying.{answered_alone, ends_as, in_part_alone}
 use Rattle.clfs_share.proofs.Making.{same_seats}
 
 -- own entries say what a client's areas are
@@ -34,12 +34,12 @@ abbrev pub RowsLaw : Type 0
 RowsLaw = (told : Bool) (s t : State) (journal : List Entry) (client number : ℕ) → IsLegal told journal s t
     → row_in t client number ≡ row_through number (row_in s client number) (mine journal client)
 
-no_area : (found : Option Area) → option_map row_of found ≡ None → found ≡ None
+pub no_area : (found : Option Area) → option_map row_of found ≡ None → found ≡ None
 no_area None is = refl
 no_area (Some area) is = absurd (cc is)
 
 -- a new session has no entries of its own
-none_own : (s : SessionState) → s.seen ≡ [] → own_entries s ≡ []
+pub none_own : (s : SessionState) → s.seen ≡ [] → own_entries s ≡ []
 none_own s none = ap (λ (z : List Entry). mine z s.client) none
 
 module _ (rows : RowsLaw) (journal : List Entry) (last : State) (s t : SessionState) (new : s.seen ≡ []) (seen : HasSeen client_of journal t)
@@ -64,7 +64,7 @@ module _ (rows : RowsLaw) (journal : List Entry) (last : State) (s t : SessionSt
     calls = all_made (own_entries between);
     ends = ends_as client_limits Dropped (AnswersThrough AnswersLine s between) (IsAnswered s.client (all_made (own_entries between)))
         (AnswersInPart AnswersLine s between) (IsAnsweredInPart s.client (all_made (own_entries between))) status left left' written written' source source' sink sink'
-        (answered_by s between (none_own s new)) (in_part_by s between (none_own s new)) served.ends;
+        (answered_alone s between (none_own s new)) (in_part_alone s between (none_own s new)) served.ends;
     answers = served.leaves.answers;
     deleted = let F : ℕ → Type 0 = λ c. AreReplies (deletions c most_areas) served.leaves.answers in subst F served.same.client served.leaves.answered;
     entries = ap all_made (own_of same) ∙ served.leaves.entries
@@ -104,37 +104,27 @@ module _ (rows : RowsLaw) (journal : List Entry) (last : State) (s t : SessionSt
 
 -- ---- all clients
 
--- a session that has seen nothing, of a log that began so
-pub record BeginsIn (o : Opening) (s : SessionState) : Type 0 where
-  pub seen : s.seen ≡ []
-  pub opening : s.opening ≡ o
-
 module _ {P S K : Type 0} (opening : Openers.Ghosts P S K) (left : S → Option (List ℕ)) (source_faults : S → ℕ) (written : K → Option (List ℕ)) (sink_faults : K → ℕ) (rows : RowsLaw) (o : Opening)
     (journal : List Entry) (last : State) (legal : IsLegal o.tells_contents journal o.state last) where
-  first_is : {a b : ℕ} {xs ys : List ℕ} → a ∷ xs ≡ b ∷ ys → a ≡ b
-  first_is is = cc is
+  -- a client with one source and one sink, before it ended and then
+  abbrev EndsPair : Serves (EndedClient P S K)
+  EndsPair old s new t = EndsAs opening left source_faults written sink_faults new.end old.openers new.openers new.ports s t
 
-  rest_is : {a b : ℕ} {xs ys : List ℕ} → a ∷ xs ≡ b ∷ ys → xs ≡ ys
-  rest_is is = cc is
+  abbrev openers_of : EndedClient P S K → P
+  openers_of client = client.openers
 
-  one_taken : (number : ℕ) (old new : Client P S K) → HasEnded opening left source_faults written sink_faults old new → BeginsIn o old.session
-      → old.session.client ≡ number → HasSeen client_of journal new.session
-      → IsTakenAs opening left source_faults written sink_faults journal last new.end number old.openers new.openers new.ports
-  one_taken number old new ended begins is seen =
+  one_taken : (number : ℕ) (openers : P) (ended : EndedClient P S K) → WasHeard openers_of EndsPair o journal number openers ended
+      → IsTakenAs opening left source_faults written sink_faults journal last ended.end number openers ended.openers ended.ports
+  one_taken number openers ended heard =
       let L : Opening → Type 0 = λ x. IsLegal x.tells_contents journal x.state last in
-      let F : ℕ → Type 0 = λ c. IsTakenAs opening left source_faults written sink_faults journal last new.end c old.openers new.openers new.ports in
-      subst F is (taken_as rows journal last old.session new.session begins.seen seen (subst L (sym begins.opening) legal)
-      opening left source_faults written sink_faults new.end old.openers new.openers new.ports ended)
+      let F : ℕ → Type 0 = λ c. IsTakenAs opening left source_faults written sink_faults journal last ended.end c openers ended.openers ended.ports in
+      let G : P → Type 0 = λ x. IsTakenAs opening left source_faults written sink_faults journal last ended.end heard.session.client x ended.openers ended.ports in
+      subst F heard.number (subst G heard.is (taken_as rows journal last heard.session heard.left heard.seen heard.heard (subst L (sym heard.begins) legal)
+      opening left source_faults written sink_faults ended.end heard.begun.openers ended.openers ended.ports heard.served))
 
-  pub all_taken : (number : ℕ) (olds news : List (Client P S K)) → HaveEnded opening left source_faults written sink_faults olds news
-      → AllByRecursion (λ (c : Client P S K). BeginsIn o c.session) olds
-      → map (λ (c : Client P S K). c.session.client) olds ≡ range_with_len number (length olds)
-      → AllByRecursion (λ (c : Client P S K). HasSeen client_of journal c.session) news
-      → AreTaken opening left source_faults written sink_faults journal last number (map openers_of olds) (map ended_of news)
-  all_taken number [] [] ended begin are seen = tt
-  all_taken number [] (new ∷ news) ended begin are seen = absurd ended
-  all_taken number (old ∷ olds) [] ended begin are seen = absurd ended
-  all_taken number (old ∷ olds) (new ∷ news) ended begin are seen = (
-    one_taken number old new ended.0 begin.0 (first_is are) seen.0,
-    all_taken (number + 1) olds news ended.1 begin.1 (rest_is are) seen.1,
-  )
+  pub all_taken : (number : ℕ) (openers : List P) (ends : List (EndedClient P S K)) → AreHeard openers_of EndsPair o journal number openers ends
+      → AreTaken opening left source_faults written sink_faults journal last number openers ends
+  all_taken number [] [] heard = tt
+  all_taken number [] (ended ∷ others) heard = absurd heard
+  all_taken number (openers ∷ more) [] heard = absurd heard
+  all_taken number (openers ∷ more) (ended ∷ others) heard = (one_taken number openers ended heard.0, all_taken (number + 1) more others heard.1)

@@ -1,11 +1,10 @@
 -- How a client ended, beside how it began.
-use Rattle.std.specs.Prelude.{◌≡◌, ℕ, Bool, true, false, List, [], ◌∷◌, map, All, Option, None, Some}
+use Rattle.std.specs.Prelude.{◌≡◌, ℕ, Bool, true, false, List, map, Option, None, Some}
 use Rattle.std.specs.List.{list_any}
-use Rattle.clfs_shared.specs.Sessions.{SessionState, SharedState, IsOf}
-use Rattle.clfs_share.specs.declared.clients.Client.{Client}
-use Rattle.clfs_share.specs.declared.clients.ClientEnd.{ClientEnd}
-use Rattle.clfs_share.specs.declared.clients.EndedClient.{EndedClient}
-use Rattle.clfs_share.specs.declared.clients.ClientEnd.TheVariants.{Served, NotOpened, NoThread}
+use Rattle.clfs_shared.specs.Sessions.{SessionState}
+use Rattle.clfs_share.specs.declared.pairs.ClientEnd.{ClientEnd}
+use Rattle.clfs_share.specs.declared.pairs.EndedClient.{EndedClient}
+use Rattle.clfs_share.specs.declared.pairs.ClientEnd.TheVariants.{Served, NotOpened, NoThread}
 use Rattle.clfs_share.specs.declared.openers.Openers as Openers
 use Rattle.clfs_share.specs.Served.{IsServed}
 
@@ -23,18 +22,6 @@ pub record WasServed {P S K : Type 0} (opening : Openers.Ghosts P S K) (left : S
   pub are : ports ≡ Some (source_after, sink_after)
   pub served : IsServed s t status (left source) (left source_after) (written sink) (written sink_after)
       (source_faults source) (source_faults source_after) (sink_faults sink) (sink_faults sink_after)
-
--- the sessions of clients are of this log
-pub record AreClientsOf {P S K : Type 0} (log : SharedState) (clients : List (Client P S K)) : Type 0 where
-  pub each : All (λ (client : Client P S K). IsOf log client.session) clients
-
--- a client's source and sink before they are open
-abbrev pub openers_of : {P S K : Type 0} → Client P S K → P
-openers_of client = client.openers
-
--- a client's openers, source and sink, with how it ended
-abbrev pub ended_of : {P S K : Type 0} → Client P S K → EndedClient P S K
-ended_of client = record { openers = client.openers; ports = client.ports; end = client.end }
 
 -- how clients ended
 abbrev pub ends_of : {P S K : Type 0} → List (EndedClient P S K) → List ClientEnd
@@ -66,14 +53,3 @@ module _ {P S K : Type 0} (opening : Openers.Ghosts P S K) (left : S → Option 
   EndsAs (Served status) openers after ports s t = WasServed opening left source_faults written sink_faults openers after status ports s t
   EndsAs NotOpened openers after ports s t = (t ≡ s) × WasNotOpened opening openers after ports
   EndsAs NoThread openers after ports s t = (t ≡ s) × WasRefused opening openers after ports
-
-  -- one client before and after
-  abbrev pub HasEnded : Client P S K → Client P S K → Type 0
-  HasEnded old new = EndsAs new.end old.openers new.openers new.ports old.session new.session
-
-  -- clients before and after, in the same order
-  abbrev pub HaveEnded : List (Client P S K) → List (Client P S K) → Type 0
-  HaveEnded [] [] = Unit {0}
-  HaveEnded [] (new ∷ others) = ⊥
-  HaveEnded (old ∷ clients) [] = ⊥
-  HaveEnded (old ∷ clients) (new ∷ others) = HasEnded old new × HaveEnded clients others

@@ -5,4 +5,7 @@ pub mod Made
 pub mod Left
 pub mod Served
 pub mod Ended
+pub mod Heard
 pub mod Taken
+pub mod Visits
+pub mod Visited

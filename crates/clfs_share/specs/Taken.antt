@@ -9,9 +9,9 @@ use Rattle.clfs_model.specs.Journals.{mine}
 use Rattle.clfs_model.specs.State.{area_of}
 use Rattle.clfs_lines.specs.Answering.{EndsAnswering}
 use Rattle.clfs_lines.specs.declared.incomplete.IncompleteLine.TheVariants.{Dropped}
-use Rattle.clfs_share.specs.declared.clients.ClientEnd.{ClientEnd}
-use Rattle.clfs_share.specs.declared.clients.ClientEnd.TheVariants.{Served, NotOpened, NoThread}
-use Rattle.clfs_share.specs.declared.clients.EndedClient.{EndedClient}
+use Rattle.clfs_share.specs.declared.pairs.ClientEnd.{ClientEnd}
+use Rattle.clfs_share.specs.declared.pairs.ClientEnd.TheVariants.{Served, NotOpened, NoThread}
+use Rattle.clfs_share.specs.declared.pairs.EndedClient.{EndedClient}
 use Rattle.clfs_share.specs.declared.openers.Openers as Openers
 use Rattle.clfs_share.specs.Ended.{WasNotOpened, WasRefused}
 use Rattle.clfs_share.specs.Left.{deletions, is_gone, EndsArea}
@@ -19,19 +19,19 @@ use Rattle.clfs_share.specs.Lines.{own_requests}
 use Rattle.clfs_share.specs.Made.{Made, all_made, calls_made, AreReplies, AreWanted, reply_lines}
 use Rattle.clfs_share.specs.Served.{client_limits}
 
--- Lines of a client were answered: the calls that they and the replies give are these, and this text is the replies. Memory ran out only for a call that
--- takes some, or where these calls are as many as a client may make.
-pub record IsAnswered (client : ℕ) (calls : List Made) (lines : List (List ℕ)) (text : List ℕ) : Type 0 where
+-- Lines of a client that has made so many calls by then were answered: the calls that they and the replies give are these, and this text is the replies.
+-- Memory ran out only for a call that takes some, or where the client has made as many calls as it may.
+pub record IsAnsweredBy (own client : ℕ) (calls : List Made) (lines : List (List ℕ)) (text : List ℕ) : Type 0 where
   pub answers : List Reply
   pub answered : AreReplies (own_requests client lines) answers
   pub made : calls_made (own_requests client lines) answers ≡ calls
-  pub wanted : AreWanted (length calls) (own_requests client lines) answers
+  pub wanted : AreWanted own (own_requests client lines) answers
   pub is : text ≡ concat (reply_lines (own_requests client lines) answers)
 
--- Lines of a client were answered, and this text is all replies, or all but the last and, if it is torn, a front of that one.
-pub record IsAnsweredInPart (client : ℕ) (calls : List Made) (torn : Bool) (lines : List (List ℕ)) (text : List ℕ) : Type 0 where
+-- The same, and this text is all replies, or all but the last and, if it is torn, a front of that one.
+pub record IsAnsweredByInPart (own client : ℕ) (calls : List Made) (torn : Bool) (lines : List (List ℕ)) (text : List ℕ) : Type 0 where
   pub output : List ℕ
-  pub answered : IsAnswered client calls lines output
+  pub answered : IsAnsweredBy own client calls lines output
   pub whole : List (List ℕ)
   pub others : List (List ℕ)
   pub all : whole ++ others ≡ reply_lines (own_requests client lines) answered.answers
@@ -41,6 +41,13 @@ pub record IsAnsweredInPart (client : ℕ) (calls : List Made) (torn : Bool) (li
   pub rest : List ℕ
   pub is : text ≡ concat whole ++ front
   pub goes_on : text ++ rest ≡ output
+
+-- the same of a client that has made no other calls than these
+abbrev pub IsAnswered : ℕ → List Made → List (List ℕ) → List ℕ → Type 0
+IsAnswered client calls = IsAnsweredBy (length calls) client calls
+
+abbrev pub IsAnsweredInPart : ℕ → List Made → Bool → List (List ℕ) → List ℕ → Type 0
+IsAnsweredInPart client calls = IsAnsweredByInPart (length calls) client calls
 
 -- The log took a client's calls: in the journal, whose last state this is, they are those of its lines, in order, each with its reply, and then the
 -- deletions of its areas. The status tells how its lines ended.

@@ -19,13 +19,19 @@
 mod clients;
 mod leaving;
 mod openers;
+mod pairs;
 mod reading;
 mod seat;
+mod service;
 mod serving;
 mod sharing;
 mod threads;
+mod visitors;
+mod visits;
 
-pub use clients::{ClientEnd, EndedClient, is_any_served};
 pub use openers::{OpenedPorts, Openers};
+pub use pairs::{ClientEnd, EndedClient, is_any_served};
 pub use serving::{Served, serve_client};
-pub use sharing::{ShareRefused, Shared, share};
+pub use sharing::{ShareRefused, Shared, share, share_visits};
+pub use visitors::{ComingEnd, NoneCanCome, Visitors};
+pub use visits::{VisitedClient, could_any_come, serve_visit};

@@ -8,12 +8,17 @@ ghost use Rattle.clfs_lsn.specs.Limits.{most_clients};
 ghost use Rattle.clfs_shared.specs.Reached.{opening_of, IsReached};
 ghost use Rattle.clfs_shared.specs.Sessions.{IsOf};
 ghost use Rattle.clfs_turn.specs.Seats.{IsNewSeat};
-ghost use Rattle.clfs_share.specs.Ended.{openers_of, ended_of};
+ghost use Rattle.clfs_share.specs.Heard.{AreHeard, service_of};
 ghost use Rattle.clfs_share.specs.Taken.{AreTaken, IsOfClients};
+ghost use Rattle.clfs_share.specs.Visited.{AreVisited};
 
-use crate::clients::{Client, ClientEnd, EndedClient};
+use crate::clients::Client;
 use crate::openers::Openers;
+use crate::pairs::EndedClient;
+use crate::service::Begins;
 use crate::threads::run_clients;
+use crate::visitors::Visitors;
+use crate::visits::VisitedClient;
 use clfs_disk::Disk;
 use clfs_laws::rows_are_by_own_entries;
 use clfs_manager::{DiskName, Manager};
@@ -26,13 +31,13 @@ use std::thread::Threads;
 
 /// A log that was shared until its clients ended.
 #[derive(Drop)]
-pub struct Shared<D: Disk, P: Openers<S, K>, S: Source, K: Sink> {
+pub struct Shared<D: Disk, C> {
     /// The log.
     pub manager: Manager<D>,
     /// The calls that it took, in order. They are told to contracts alone.
     pub journal: ToldJournal,
-    /// The clients, in order.
-    pub clients: Vec<EndedClient<P, S, K>>,
+    /// The clients, in order, as they ended.
+    pub clients: Vec<C>,
 }
 
 /// There was no memory to share a log. It comes back, and nothing was opened.
@@ -58,14 +63,14 @@ fn numbers(alloc: Global, count: usize) -> Result<Vec<u16>, AllocError>
 
 // Memory for so many clients.
 #[derive(Drop)]
-struct Room<P: Openers<S, K>, S: Source, K: Sink> {
-    clients: Vec<Client<P, S, K>>,
+struct Room<C> {
+    clients: Vec<Client<C>>,
     sessions: Vec<Session>,
-    ended: Vec<EndedClient<P, S, K>>,
+    ended: Vec<C>,
 }
 
-impl<P: Openers<S, K> + Drop, S: Source + Drop, K: Sink + Drop> Room<P, S, K> {
-    fn new(alloc: Global, count: usize) -> Result<Room<P, S, K>, AllocError>
+impl<C: Drop> Room<C> {
+    fn new(alloc: Global, count: usize) -> Result<Room<C>, AllocError>
         ensures clients { IfOk result (λ room. (room.clients.items ≡ []) × (count ≤ vec_capacity room.clients)) }
         ensures sessions { IfOk result (λ room. (room.sessions.items ≡ []) × (count ≤ vec_capacity room.sessions)) }
         ensures ended { IfOk result (λ room. (room.ended.items ≡ []) × (count ≤ vec_capacity room.ended)) }
@@ -79,16 +84,16 @@ impl<P: Openers<S, K> + Drop, S: Source + Drop, K: Sink + Drop> Room<P, S, K> {
 }
 
 // The clients of sessions and their openers, the last one first.
-fn joined<P: Openers<S, K> + Drop, S: Source + Drop, K: Sink + Drop>(
+fn joined<P: Drop, C: Begins<P> + Drop>(
     sessions: Vec<Session>,
     openers: Vec<P>,
-    clients: Vec<Client<P, S, K>>,
-) -> Vec<Client<P, S, K>>
+    clients: Vec<Client<C>>,
+) -> Vec<Client<C>>
     requires many { length sessions.items ≡ length openers.items }
     requires none { clients.items ≡ [] }
     requires room { length openers.items ≤ vec_capacity clients }
     ensures sessions { map (λ c. c.session) (reverse result.items) ≡ sessions.items }
-    ensures openers { map openers_of (reverse result.items) ≡ openers.items }
+    ensures openers { map (λ c. C.begun_by c.service) (reverse result.items) ≡ openers.items }
 {
     let mut sessions = sessions;
     let mut all_openers = openers;
@@ -99,57 +104,41 @@ fn joined<P: Openers<S, K> + Drop, S: Source + Drop, K: Sink + Drop>(
         };
         clients.push_reserved(Client {
             session,
-            openers,
-            ports: None,
-            end: ClientEnd::NoThread,
+            service: C::begin(openers),
         });
     }
     clients
 }
 
 // Clients that have ended, apart from their sessions: the last one first.
-fn parted<P: Openers<S, K> + Drop, S: Source + Drop, K: Sink + Drop>(
-    clients: Vec<Client<P, S, K>>,
-    sessions: &mut Vec<Session>,
-    ended: &mut Vec<EndedClient<P, S, K>>,
-)
+fn parted<C: Drop>(clients: Vec<Client<C>>, sessions: &mut Vec<Session>, ended: &mut Vec<C>)
     requires none { (sessions.old.items ≡ []) × (ended.old.items ≡ []) }
     requires room { (length clients.items ≤ vec_capacity sessions.old) × (length clients.items ≤ vec_capacity ended.old) }
     ensures sessions { sessions.new.items ≡ map (λ c. c.session) (reverse clients.items) }
-    ensures ended { ended.new.items ≡ map ended_of (reverse clients.items) }
+    ensures ended { ended.new.items ≡ map service_of (reverse clients.items) }
 {
     let mut clients = clients;
     while let Some(client) = clients.pop() {
-        let Client {
-            session,
-            openers,
-            ports,
-            end,
-        } = client;
+        let Client { session, service } = client;
         sessions.push_reserved(session);
-        ended.push_reserved(EndedClient {
-            openers,
-            ports,
-            end,
-        });
+        ended.push_reserved(service);
     }
 }
 
 // Serves the clients of a log that is shared among them, and closes it.
-fn share_over<R, D, P, S, K>(
+fn share_over<R, D, P, C>(
     rt: &R,
     alloc: Global,
     log: SharedLog<D, ToldJournal>,
     sessions: Vec<Session>,
     openers: Vec<P>,
-    room: Room<P, S, K>,
-) -> Shared<D, P, S, K>
+    room: Room<C>,
+) -> Shared<D, C>
 where
     R: Threads + Wait + Sync,
     D: Disk + Send + Drop,
-    P: Openers<S, K> + Send + Drop,
-    S: Source + Send + Drop,
-    K: Sink + Send + Drop,
+    P: Drop,
+    C: Begins<P> + Send + Drop,
     requires new { All (λ s. IsNewSeat log s) sessions.items }
     requires log { All (λ s. IsOf log s) sessions.items }
     requires clients { (map (λ s. s.client) sessions.items ≡ log.clients) × (log.clients ≡ range_with_len 1 (length openers.items)) }
@@ -157,10 +146,9 @@ where
     requires sessions { (room.sessions.items ≡ []) × (length openers.items ≤ vec_capacity room.sessions) }
     requires ended { (room.ended.items ≡ []) × (length openers.items ≤ vec_capacity room.ended) }
     ensures reached { IsReached log.opening (D.state result.manager.1) result.manager.0 result.journal }
-    ensures clients { AreTaken P.Openers S.left S.faults K.written K.faults result.journal result.manager.0 1 openers.items result.clients.items }
+    ensures clients { AreHeard C.begun_by C.serves log.opening result.journal 1 openers.items result.clients.items }
     ensures others { IsOfClients (length openers.items) result.journal }
 {
-    rows_are_by_own_entries();
     let Room {
         clients,
         sessions: mut back,
@@ -178,25 +166,24 @@ where
 }
 
 // Shares a log among clients, and serves each. Under the lock the disk is one that came of the named one.
-fn share_followed<R, D, P, S, K, N>(
+fn share_followed<R, D, P, C, N>(
     rt: &R,
     alloc: Global,
     manager: Manager<D>,
     openers: Vec<P>,
-) -> Result<Shared<D, P, S, K>, ShareRefused<D, P>>
+) -> Result<Shared<D, C>, ShareRefused<D, P>>
 where
     R: Threads + Wait + Sync,
     D: Disk + Send + Drop,
-    P: Openers<S, K> + Send + Drop,
-    S: Source + Send + Drop,
-    K: Sink + Send + Drop,
+    P: Drop,
+    C: Begins<P> + Send + Drop,
     N: DiskName<D> + Send,
     requires begun { N.begun ≡ Some manager.1 }
     requires some { 0 < length openers.items }
     requires few { length openers.items ≤ most_clients }
     ensures reached { IfOk result (λ shared. IsReached (opening_of manager.0 (D.state manager.1)) (D.state shared.manager.1) shared.manager.0 shared.journal) }
     ensures later { IfOk result (λ shared. Later (D.state manager.1) (D.state shared.manager.1)) }
-    ensures clients { IfOk result (λ shared. AreTaken P.Openers S.left S.faults K.written K.faults shared.journal shared.manager.0 1 openers.items shared.clients.items) }
+    ensures clients { IfOk result (λ shared. AreHeard C.begun_by C.serves (opening_of manager.0 (D.state manager.1)) shared.journal 1 openers.items shared.clients.items) }
     ensures others { IfOk result (λ shared. IsOfClients (length openers.items) shared.journal) }
     ensures refused { IfErr result (λ refused. (refused.manager ≡ manager) × (refused.openers ≡ openers)) }
 {
@@ -235,7 +222,7 @@ pub fn share<R, D, P, S, K>(
     alloc: Global,
     manager: Manager<D>,
     openers: Vec<P>,
-) -> Result<Shared<D, P, S, K>, ShareRefused<D, P>>
+) -> Result<Shared<D, EndedClient<P, S, K>>, ShareRefused<D, P>>
 where
     R: Threads + Wait + Sync,
     D: Disk + Send + Drop,
@@ -258,5 +245,41 @@ where
     ensures others { IfOk result (λ shared. IsOfClients (length openers.items) shared.journal) }
     ensures refused { IfErr result (λ refused. (refused.manager ≡ manager) × (refused.openers ≡ openers)) }
 {
-    share_followed::<R, D, P, S, K, Brand>(rt, alloc, manager, openers)
+    rows_are_by_own_entries();
+    share_followed::<R, D, P, EndedClient<P, S, K>, Brand>(rt, alloc, manager, openers)
+}
+
+/// Shares a log among so many clients' numbers, from 1, and serves each in a thread of its own: programs come to it one after the other, each is greeted by
+/// the line of its number, its lines are answered as they come, until its source ends, and then its areas are deleted, and the next one may come. It returns
+/// when no more come to any number. An error means that there was no memory to begin.
+pub fn share_visits<R, D, P, S, K>(
+    rt: &R,
+    alloc: Global,
+    manager: Manager<D>,
+    visitors: Vec<P>,
+) -> Result<Shared<D, VisitedClient<P, S, K>>, ShareRefused<D, P>>
+where
+    R: Threads + Wait + Sync,
+    D: Disk + Send + Drop,
+    P: Visitors<S, K> + Send + Drop,
+    S: Source + Send + Drop,
+    K: Sink + Send + Drop,
+    requires some { 0 < length visitors.items }
+    requires few { length visitors.items ≤ most_clients }
+
+    // The calls that the log took are a legal journal from its state to that of the log that comes back. Its fields say what it tells of the disk, and what
+    // a crash left at each moment.
+    ensures reached { IfOk result (λ shared. IsReached (opening_of manager.0 (D.state manager.1)) (D.state shared.manager.1) shared.manager.0 shared.journal) }
+
+    // What a crash left at the moments up to the one at which it was shared stayed as it was.
+    ensures later { IfOk result (λ shared. Later (D.state manager.1) (D.state shared.manager.1)) }
+
+    // Of each number it has the calls of its visits, one visit after the other, and of each visit those of its lines, in order, each with its reply, and then
+    // the deletions of its areas; the visit's source gave these lines, and its sink took the greeting and these replies. Nobody else has made a call.
+    ensures clients { IfOk result (λ shared. AreVisited P.Visitors S.left S.faults K.written K.faults (D.state manager.1).nature.tells_contents manager.0 shared.journal 1 visitors.items shared.clients.items) }
+    ensures others { IfOk result (λ shared. IsOfClients (length visitors.items) shared.journal) }
+    ensures refused { IfErr result (λ refused. (refused.manager ≡ manager) × (refused.openers ≡ visitors)) }
+{
+    rows_are_by_own_entries();
+    share_followed::<R, D, P, VisitedClient<P, S, K>, Brand>(rt, alloc, manager, visitors)
 }

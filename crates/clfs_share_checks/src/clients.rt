@@ -57,6 +57,8 @@ pub(crate) fn ports_of(
 
 type Ports = OpenedPorts<MemorySource, MemorySink>;
 
+type Ended = EndedClient<Ports, MemorySource, MemorySink>;
+
 // The same, open.
 fn openers_of(alloc: Global, client: &Lines<'_>) -> Result<Ports, AllocError> {
     let ports = ports_of(alloc, client)?;
@@ -83,18 +85,14 @@ fn shared<R: Threads + Wait + Sync>(
     alloc: Global,
     first: &Lines<'_>,
     second: &Lines<'_>,
-) -> Option<Shared<Memory, Ports, MemorySource, MemorySink>> {
+) -> Option<Shared<Memory, Ended>> {
     let openers = both_openers(alloc, first, second).ok()?;
     let manager = new_log(alloc)?;
     share(rt, alloc, manager, openers).ok()
 }
 
 // Whether a client saw these replies, and ended so.
-fn is_as(
-    client: &EndedClient<Ports, MemorySource, MemorySink>,
-    replies: &[u8],
-    end: ClientEnd,
-) -> bool {
+fn is_as(client: &Ended, replies: &[u8], end: ClientEnd) -> bool {
     match &client.ports {
         Some((_, sink)) => sink.bytes() == replies && client.end == end,
         None => replies.is_empty() && client.end == end,
@@ -103,7 +101,7 @@ fn is_as(
 
 // Whether there are two clients, which saw these replies and ended so.
 fn are_as(
-    shared: &Shared<Memory, Ports, MemorySource, MemorySink>,
+    shared: &Shared<Memory, Ended>,
     first: &[u8],
     first_end: ClientEnd,
     second: &[u8],
@@ -160,7 +158,7 @@ fn ends_alone<R: Threads + Wait + Sync>(
 fn shared_with_shut<R: Threads + Wait + Sync>(
     rt: &R,
     alloc: Global,
-) -> Option<Shared<Memory, Ports, MemorySource, MemorySink>> {
+) -> Option<Shared<Memory, Ended>> {
     let mut openers = Vec::new(alloc);
     openers.push(OpenedPorts { ports: None }).ok()?;
     let other = steady(OTHER);

@@ -56,6 +56,8 @@ impl Openers<MemorySource, MemorySink> for Counted {
     }
 }
 
+type Ended = EndedClient<Counted, MemorySource, MemorySink>;
+
 // Openers of three clients: one whose lines are answered, one whose source fails at once, and one that can't be opened.
 fn three_openers(alloc: Global) -> Result<Vec<Counted>, AllocError>
     ensures { IfOk result (λ openers. vec_len openers ≡ 3) }
@@ -83,21 +85,14 @@ fn three_openers(alloc: Global) -> Result<Vec<Counted>, AllocError>
 }
 
 // Shares a new log among these three.
-fn shared<R: Threads + Wait + Sync>(
-    rt: &R,
-    alloc: Global,
-) -> Option<Shared<Memory, Counted, MemorySource, MemorySink>> {
+fn shared<R: Threads + Wait + Sync>(rt: &R, alloc: Global) -> Option<Shared<Memory, Ended>> {
     let openers = three_openers(alloc).ok()?;
     let manager = new_log(alloc)?;
     share(rt, alloc, manager, openers).ok()
 }
 
 // Whether a client ended so, with these counts, and has a source and a sink only if it was opened.
-fn is_as(
-    client: &EndedClient<Counted, MemorySource, MemorySink>,
-    end: ClientEnd,
-    counts: Counts,
-) -> bool {
+fn is_as(client: &Ended, end: ClientEnd, counts: Counts) -> bool {
     let served = counts.closed == 1;
     client.end == end
         && client.openers.counts == counts

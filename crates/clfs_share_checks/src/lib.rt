@@ -7,3 +7,5 @@ mod clients;
 mod counts;
 #[cfg(test)]
 mod turns;
+#[cfg(test)]
+mod visits;

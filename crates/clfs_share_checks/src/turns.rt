@@ -159,12 +159,14 @@ fn both_openers(
 
 type TurnPorts = OpenedPorts<TurnSource, TurnSink>;
 
+type Ended = EndedClient<TurnPorts, TurnSource, TurnSink>;
+
 // Shares a new log among the two clients.
 fn shared<R: Threads + Wait + Sync>(
     rt: &R,
     alloc: Global,
     openers: Vec<TurnPorts>,
-) -> Option<Shared<Memory, TurnPorts, TurnSource, TurnSink>>
+) -> Option<Shared<Memory, Ended>>
     requires { vec_len openers ≡ 2 }
 {
     let manager = new_log(alloc)?;
@@ -172,7 +174,7 @@ fn shared<R: Threads + Wait + Sync>(
 }
 
 // Whether all lines of a client were answered so.
-fn is_as(client: &EndedClient<TurnPorts, TurnSource, TurnSink>, replies: &[u8]) -> bool {
+fn is_as(client: &Ended, replies: &[u8]) -> bool {
     match &client.ports {
         Some((_, sink)) => {
             sink.taken.bytes() == replies && client.end == ClientEnd::Served { status: 0 }
@@ -182,7 +184,7 @@ fn is_as(client: &EndedClient<TurnPorts, TurnSource, TurnSink>, replies: &[u8]) 
 }
 
 // Whether both were answered.
-fn are_as(clients: &[EndedClient<TurnPorts, TurnSource, TurnSink>]) -> bool {
+fn are_as(clients: &[Ended]) -> bool {
     match clients {
         [a, b] => is_as(a, FIRST_REPLIES) && is_as(b, SECOND_REPLIES),
         _ => false,

@@ -1,10 +1,9 @@
 use Rattle.std.proofs.Common.{◌∙◌, ℕ, List, ap, sym, length, reverse, arith}
 use Rattle.std.proofs.lemmas.List.{length-map, length-reverse}
 use Rattle.clfs_shared.specs.Sessions.{SessionState}
-use Rattle.clfs_share.specs.Ended.{openers_of}
 use Rattle.clfs_share.proofs.Ending.{ended_length}
 use Rattle.clfs_share.proofs.Numbers.{range_length}
-use Rattle.clfs_share.proofs.Returning.{all_back_there, back_belong, belong, others_none, taken}
+use Rattle.clfs_share.proofs.Returning.{all_back_there, back_belong, belong, heard, others_none}
 use Rattle.clfs_share.proofs.sharing.share_over.Goals as goal
 
 pub joined-clients-requires-clause-many : goal.joined-clients-requires-clause-many
@@ -20,32 +19,31 @@ run_clients-clients-requires-after_bounds g c κs within =
 pub parted-requires-clause-room : goal.parted-requires-clause-room
 parted-requires-clause-room g c =
     let olds = c.joined-clients.result.items in
-    let many = ended_length g.P.Openers g.S.Source.left g.S.Source.faults g.K.Sink.written g.K.Sink.faults olds c.run_clients-clients.result.items
+    let many = ended_length g.C.Service.serves olds c.run_clients-clients.result.items
     c.run_clients-clients.ensures in
     let as_openers = ap (λ z. length z) c.joined-clients.ensures.openers in
-    let mapped = length-map (reverse olds) openers_of in
+    let mapped = length-map (reverse olds) (λ client. g.C.Begins.begun_by client.service) in
     let turned = length-reverse olds in
     (omega (arith, many, as_openers, mapped, turned, c.requires.sessions.1), omega (arith, many, as_openers, mapped, turned, c.requires.ended.1))
 
 pub close-manager-requires-clause-log : goal.close-manager-requires-clause-log
 close-manager-requires-clause-log g c =
-    back_belong g.P.Openers g.S.Source.left g.S.Source.faults g.K.Sink.written g.K.Sink.faults c.args.log c.args.sessions.items c.parted.new.sessions.items
+    back_belong g.C.Begins.begun_by g.C.Service.serves c.args.log c.args.sessions.items c.parted.new.sessions.items
     c.joined-clients.result.items c.run_clients-clients.result.items c.joined-clients.ensures.sessions c.parted.ensures.sessions c.run_clients-clients.ensures
     c.requires.log
 
 pub close-manager-requires-clause-all : goal.close-manager-requires-clause-all
 close-manager-requires-clause-all g c =
-    all_back_there g.P.Openers g.S.Source.left g.S.Source.faults g.K.Sink.written g.K.Sink.faults c.args.log c.args.sessions.items
+    all_back_there g.C.Begins.begun_by g.C.Service.serves c.args.log c.args.sessions.items
     c.parted.new.sessions.items c.joined-clients.result.items c.run_clients-clients.result.items c.joined-clients.ensures.sessions c.parted.ensures.sessions
     c.run_clients-clients.ensures c.requires.clients.0
 
 pub returns-clause-clients : goal.returns-clause-clients
 returns-clause-clients g c =
-    taken g.P.Openers g.S.Source.left g.S.Source.faults g.K.Sink.written g.K.Sink.faults c.args.log c.args.sessions.items c.parted.new.sessions.items
+    heard g.C.Begins.begun_by g.C.Service.serves c.args.log c.args.sessions.items c.parted.new.sessions.items
     c.joined-clients.result.items c.run_clients-clients.result.items c.joined-clients.ensures.sessions c.parted.ensures.sessions c.run_clients-clients.ensures
-    c.rows_are_by_own_entries.ensures.rows c.close-manager.result.journal c.close-manager.result.manager.0 c.args.openers.items c.parted.new.ended.items
-    c.joined-clients.ensures.openers c.parted.ensures.ended c.requires.new c.requires.clients.0 c.requires.clients.1
-    c.close-manager.ensures.reached.legal c.close-manager.ensures.sessions
+    c.close-manager.result.journal c.args.openers.items c.parted.new.ended.items
+    c.joined-clients.ensures.openers c.parted.ensures.ended c.requires.new c.requires.clients.0 c.requires.clients.1 c.close-manager.ensures.sessions
 
 pub returns-clause-others : goal.returns-clause-others
 returns-clause-others g c =

@@ -9,9 +9,7 @@ scoped-requires g c = record {
     c.requires,
     (
       param_send 1 _ (arg_send _ no _ c.type_bounds.send-D),
-      param_send 2 _ (arg_send _ no _ c.type_bounds.send-P),
-      param_send 3 _ (arg_send _ no _ c.type_bounds.send-S),
-      param_send 4 _ (arg_send _ no _ c.type_bounds.send-K),
+      param_send 2 _ (arg_send _ no _ c.type_bounds.send-C),
       param_sync 0 _ (arg_sync _ no _ c.type_bounds.sync-R),
     ),
   );
