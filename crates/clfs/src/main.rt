@@ -14,7 +14,9 @@ use clfs_command::{answer_to, asks_to_share, help_text};
 use clfs_engine::{
     DONE, NO_MEMORY, NOT_A_LOG, SINK_FAULT, SOURCE_FAULT, USAGE, run, run_alone, run_share,
 };
-use clfs_files::{EndsProgress, Folder, Progress, SystemPort, Watched};
+use clfs_files::{EndsProgress, FileUse, Folder, Progress, SyncedOutput, SystemPort, Watched};
+use clfs_lineage::Followed;
+use clfs_ports::Source;
 use std::alloc::{AllocError, Global};
 use std::env;
 use std::io::ErrorKind;
@@ -71,6 +73,33 @@ fn cause(status: u8) -> Option<&'static str> {
     }
 }
 
+// Whether the first of the words after FOLDER is this one.
+fn names(words: &[String], command: &str) -> bool {
+    match words.first() {
+        Some(first) => first.as_str() == command,
+        None => false,
+    }
+}
+
+// What the command that the words name needs the log's files for.
+fn use_of_files(words: &[String]) -> FileUse {
+    if names(words, "check") || names(words, "dump") {
+        FileUse::Reading
+    } else {
+        FileUse::Writing
+    }
+}
+
+// Says that archives were read that aren't of one log in their order, as far as that was seen.
+fn tell_stranger<S: Source + Drop>(rt: &HostRuntime, source: &Followed<S>) {
+    if let Some(number) = source.stranger() {
+        let before = number.saturating_sub(1);
+        let _said = rt.eprintln(format_args!(
+            "clfs: archive {number} isn't a later one of the same log as {before}"
+        ));
+    }
+}
+
 // Says that a folder isn't there in which a log was looked for.
 fn tell_no_log(status: u8, folder: &Folder) {
     if status == NOT_A_LOG {
@@ -106,15 +135,19 @@ fn run_folder(
     words: &[String],
 ) -> u8 {
     let progress = Progress::new(*rt, &rt.stderr());
-    let mut source = EndsProgress::new(SystemPort::new(rt.stdin(), *rt), &progress);
-    let mut sink = EndsProgress::new(SystemPort::new(rt.stdout(), *rt), &progress);
-    let folder = Watched::new(Folder::new(*rt, path), &progress);
     let alloc = rt.alloc();
+    let input = EndsProgress::new(SystemPort::new(rt.stdin(), *rt), &progress);
+    let mut source = Followed::new(alloc, input, names(words, "restore"));
+    let output = EndsProgress::new(SystemPort::new(rt.stdout(), *rt), &progress);
+    let mut sink = SyncedOutput::new(output, *rt, names(words, "archive"));
+    let folder = Folder::used_for(*rt, path, use_of_files(words));
+    let folder = Watched::new(folder, &progress);
     let ended = match run_alone(alloc, words, &mut source, &mut sink, folder) {
         Ok(ended) => ended,
         Err(needs) => run(threads, alloc, words, &mut source, &mut sink, needs.disk),
     };
     progress.end();
+    tell_stranger(rt, &source);
     tell_no_log(ended.status, ended.disk.folder());
     ended.status
 }

@@ -11,7 +11,7 @@ ghost use Rattle.std.specs.Prelude.{◌≡◌, ◌≤◌, length, IfOk};
 
 use crate::access::State;
 use crate::fault::{Call, Cause, Fault, Place, asked, if_there};
-use crate::file::{FILES, StoredFile};
+use crate::file::{FILES, StoredFile, synced};
 use crate::held::HeldFolder;
 use crate::location::Location;
 use crate::unsynced::{has_mark, leave_mark, renew};
@@ -60,6 +60,8 @@ pub(crate) struct Directory {
     is_unsynced: bool,
     // The folder that this one lies in, until the first sync. None also if this process may not read it, or if it is on another device.
     parent: Option<File>,
+    // A file may not be written, and was opened for reading alone. Nothing is written then.
+    is_only_read: bool,
     ghost count: { length files.items ≡ 257 },
 }
 
@@ -110,6 +112,18 @@ fn open_files(location: &Location, folder: &HeldFolder) -> Result<Vec<Option<Sto
     Ok(files)
 }
 
+// Whether one of these files was opened for reading alone.
+fn is_any_only_read(files: &[Option<StoredFile>]) -> bool {
+    for slot in files {
+        if let Some(file) = slot
+            && file.is_only_read()
+        {
+            return true;
+        }
+    }
+    false
+}
+
 impl Directory {
     /// Opens and locks the folder, if it is there and no other process has it. If the folder that it lies in may not be read, that is said, and
     /// the folder is used all the same.
@@ -144,7 +158,11 @@ impl Directory {
             return Ok(State::Taken);
         };
         let mut files = open_files(location, &folder)?;
+        let is_only_read = is_any_only_read(&files);
         if has_mark(location, &folder)? {
+            if is_only_read {
+                return Err(Fault::new(Place::Mark, Call::Look, Cause::MayOnlyBeRead));
+            }
             renew(location, &folder, files)?;
             files = open_files(location, &folder)?;
         }
@@ -154,6 +172,7 @@ impl Directory {
             changed: ALL,
             is_unsynced: true,
             parent,
+            is_only_read,
         }))
     }
 
@@ -188,6 +207,9 @@ impl Directory {
     pub fn write(&mut self, file: u16, at: u64, bytes: &[u8]) -> Result<(), Fault>
         requires { file ≤ 256 }
     {
+        if self.is_only_read {
+            return Err(Fault::new(Place::File(file), Call::Write, Cause::MayOnlyBeRead));
+        }
         self.changed = self.changed.with(file);
         match &mut self.files[file as usize] {
             Some(stored) => stored.write(at, bytes),
@@ -213,6 +235,16 @@ impl Directory {
         Ok(())
     }
 
+    // An error if a file would be made beside others that may not be written.
+    fn may_make(&self, file: u16) -> Result<(), Fault>
+        requires { file ≤ 256 }
+    {
+        if self.is_only_read && self.files[file as usize].is_none() {
+            return Err(Fault::new(Place::File(file), Call::Make, Cause::MayOnlyBeRead));
+        }
+        Ok(())
+    }
+
     /// Makes a file at least so long, and the file itself if it isn't there.
     pub fn grow(
         &mut self,
@@ -224,6 +256,7 @@ impl Directory {
         requires { file ≤ 256 }
     {
         self.refuse_foreign()?;
+        self.may_make(file)?;
         self.changed = self.changed.with(file);
         let slot = &mut self.files[file as usize];
         if slot.is_none() {
@@ -241,11 +274,15 @@ impl Directory {
     pub fn sync(&mut self) -> Result<(), Fault> {
         self.sync_files()?;
         if self.is_unsynced {
-            asked(Place::Folder, Call::Sync, self.folder.sync())?;
+            let done = synced(self.folder.sync(), self.is_only_read);
+            asked(Place::Folder, Call::Sync, done)?;
             self.is_unsynced = false;
         }
         match self.parent.take() {
-            Some(parent) => asked(Place::Parent, Call::Sync, parent.sync_all()),
+            Some(parent) => {
+                let done = synced(parent.sync_all(), self.is_only_read);
+                asked(Place::Parent, Call::Sync, done)
+            }
             None => Ok(()),
         }
     }

@@ -103,6 +103,8 @@ pub(crate) enum Cause {
     Taken,
     /// A sync of this run failed before, and nothing is read or written after it.
     AfterFailedSync,
+    /// Files of the log may not be written, and this would have to be.
+    MayOnlyBeRead,
 }
 
 impl From<io::Error> for Cause {
@@ -135,6 +137,7 @@ impl fmt::Display for Cause {
             Cause::Absent => f.write_str("it isn't there"),
             Cause::Taken => f.write_str("another process has the folder"),
             Cause::AfterFailedSync => f.write_str("a sync failed before"),
+            Cause::MayOnlyBeRead => f.write_str("files of the log may only be read"),
         }
     }
 }
@@ -201,7 +204,9 @@ impl fmt::Display for Fault {
         let Fault { place, call, cause } = self;
         match (place, cause) {
             (Place::Folder, Cause::Taken | Cause::Absent) => write!(f, ": {cause}"),
-            (Place::Copy, _) => write!(f, "{place}: {call}: {cause}; {MARKED}"),
+            (Place::Copy, _) | (Place::Mark, Cause::MayOnlyBeRead) => {
+                write!(f, "{place}: {call}: {cause}; {MARKED}")
+            }
             _ => write!(f, "{place}: {call}: {cause}"),
         }
     }

@@ -7,6 +7,7 @@
 ghost use Rattle.std.specs.Prelude.{◌≤◌, length, IfOk};
 
 use crate::fault::{Call, Cause, Fault, Place, asked};
+use crate::location::Opened;
 use clfs_lsn::OPEN_GATE;
 use std::alloc::{AllocError, Global};
 use std::fs::{File, Metadata};
@@ -46,6 +47,8 @@ pub(crate) struct StoredFile {
     len: u64,
     // Something of it was written or grown since its last sync, or may have been before it was opened.
     is_unsynced: bool,
+    // Why it may not be written, if that is so.
+    denied: Option<io::Error>,
 }
 
 /// Zeros for a growth by so many bytes at most.
@@ -56,9 +59,24 @@ pub(crate) fn zeros(alloc: Global, most: u64) -> Result<Vec<u8>, AllocError> {
     Ok(zeros)
 }
 
+/// What comes of a sync. Of what is only read nothing waits to be written by this machine, and some file systems and media that are mounted to be read refuse
+/// to sync it.
+pub(crate) fn synced(done: io::Result<()>, is_only_read: bool) -> io::Result<()> {
+    match done {
+        Err(error)
+            if is_only_read
+                && matches!(
+                    error.kind(),
+                    ErrorKind::InvalidInput | ErrorKind::ReadOnlyFilesystem
+                ) => { Ok(()) }
+        done => done,
+    }
+}
+
 impl StoredFile {
     /// A file that was just opened. Only a regular file of one name is taken.
-    pub fn new(place: Place, file: File) -> Result<StoredFile, Cause> {
+    pub fn new(place: Place, opened: Opened) -> Result<StoredFile, Cause> {
+        let Opened { file, denied } = opened;
         let found = file.metadata()?;
         if !found.is_file() {
             return Err(Cause::NoRegularFile);
@@ -72,7 +90,21 @@ impl StoredFile {
             identity: Identity::of(&found),
             len: found.len(),
             is_unsynced: true,
+            denied,
         })
+    }
+
+    /// Whether it was opened for reading alone, since it may not be written.
+    pub fn is_only_read(&self) -> bool {
+        self.denied.is_some()
+    }
+
+    // An error if it may not be written.
+    fn may_be_written(&self) -> Result<(), Fault> {
+        match self.denied {
+            Some(error) => Err(Fault::new(self.place, Call::Write, error.into())),
+            None => Ok(()),
+        }
     }
 
     /// Whether both are one file of the system.
@@ -129,6 +161,7 @@ impl StoredFile {
 
     /// Writes within the file. It is refused if the range ends past the file's end.
     pub fn write(&mut self, at: u64, bytes: &[u8]) -> Result<(), Fault> {
+        self.may_be_written()?;
         match at.checked_add(bytes.len() as u64) {
             Some(end) if end <= self.len => {}
             _ => return Err(Fault::new(self.place, Call::Write, Cause::TooShort)),
@@ -139,6 +172,9 @@ impl StoredFile {
 
     /// Writes zeros, in pieces of `zeros`, from the file's end up to `len`.
     pub fn grow(&mut self, len: u64, zeros: &[u8]) -> Result<(), Fault> {
+        if self.len < len {
+            self.may_be_written()?;
+        }
         for at in (self.len..len).step_by(PIECE) {
             self.is_unsynced = true;
             let count = ((len - at) as usize).min(zeros.len());
@@ -155,7 +191,8 @@ impl StoredFile {
     /// Syncs what was written and grown since the last sync.
     pub fn sync(&mut self) -> Result<(), Fault> {
         if self.is_unsynced {
-            asked(self.place, Call::Sync, self.file.sync_data())?;
+            let done = synced(self.file.sync_data(), self.is_only_read());
+            asked(self.place, Call::Sync, done)?;
             self.is_unsynced = false;
         }
         Ok(())

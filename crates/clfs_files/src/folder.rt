@@ -4,7 +4,7 @@ ghost use Rattle.std.specs.Prelude.{◌≡◌};
 ghost use Rattle.clfs_files.specs.Shown.{shown};
 
 use crate::access::Access;
-use crate::location::Location;
+use crate::location::{FileUse, Location};
 use clfs_disk::{Disk, Failed, GrowRefusal};
 
 /// A folder of the system, locked from the first call on. A file that isn't in it is empty.
@@ -22,8 +22,16 @@ impl Folder {
         ensures calls { (shown result).calls ≡ 0 }
         ensures faults { (shown result).faults ≡ 0 }
     {
+        Folder::used_for(rt, path, FileUse::Writing)
+    }
+
+    /// The same whose files are opened for this. Where they are only to be read, those that may not be written are read all the same, and every write fails.
+    pub fn used_for(rt: HostRuntime, path: String, use_of_files: FileUse) -> Folder
+        ensures calls { (shown result).calls ≡ 0 }
+        ensures faults { (shown result).faults ≡ 0 }
+    {
         Folder {
-            access: Access::new(Location::new(rt, path)),
+            access: Access::new(Location::new(rt, path, use_of_files)),
             calls: 0,
             faults: 0,
         }

@@ -6,7 +6,7 @@
 // between the two looks, lets be made elsewhere stays there, empty.
 use crate::fault::{Call, Cause, Fault, Place, asked};
 use crate::file::{Identity, StoredFile};
-use crate::location::Location;
+use crate::location::{Location, Opened};
 use std::fs::{File, Metadata, TryLockError};
 use std::io::{self, ErrorKind};
 
@@ -57,9 +57,9 @@ impl HeldFolder {
 
     /// Opens a file of the log.
     pub fn open(&self, location: &Location, place: Place) -> Result<StoredFile, Cause> {
-        let file = location.open(place)?;
-        self.has_file(location, place, &file)?;
-        StoredFile::new(place, file)
+        let opened = location.open(place)?;
+        self.has_file(location, place, &opened.file)?;
+        StoredFile::new(place, opened)
     }
 
     /// An error unless the mark of a failed sync is there.
@@ -82,7 +82,8 @@ impl HeldFolder {
 
     /// Makes an empty file of the log.
     pub fn make_file(&self, location: &Location, place: Place) -> Result<StoredFile, Cause> {
-        StoredFile::new(place, self.make(location, place)?)
+        let file = self.make(location, place)?;
+        StoredFile::new(place, Opened { file, denied: None })
     }
 
     /// Takes a name away.

@@ -23,12 +23,15 @@ mod paths;
 mod ports;
 mod progress;
 mod seen;
+mod synced;
 mod unsynced;
 mod watched;
 
 pub use folder::Folder;
+pub use location::FileUse;
 pub use paths::{ClientPaths, ClientPort};
 pub use ports::{ClientFile, SystemPort};
 pub use progress::{EndsProgress, Progress};
 pub use seen::SeenFiles;
+pub use synced::SyncedOutput;
 pub use watched::Watched;

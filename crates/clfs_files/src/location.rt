@@ -1,10 +1,11 @@
 // Where the folder is, and what its files are called: `base` for file 0, and `c1` to `c256` for the others. Here the system is asked
 // by name; nothing that isn't a folder or a regular file of one name is opened, since opening a pipe could wait for ever, and opening a
-// device could do anything.
+// device could do anything. A file is opened to read and write it. Where a log is only to be judged, one that may not be written, as on a medium that is
+// mounted to be read, is opened for reading alone.
 use crate::fault::{Call, Cause, Fault, Place, asked, if_there};
 use std::alloc::Global;
 use std::fs::{self, File, Metadata, OpenOptions, symlink_metadata};
-use std::io;
+use std::io::{self, ErrorKind};
 use std::os::fd::AsRawFd;
 use std::os::unix::fs::MetadataExt;
 
@@ -20,6 +21,31 @@ const UNSYNCED_NAME: &str = "the name of the log's folder isn't synced, which ma
 pub(crate) struct Location {
     rt: HostRuntime,
     path: String,
+    use_of_files: FileUse,
+}
+
+/// What the files of a folder are opened for.
+#[derive(Clone, Copy, PartialEq, Eq)]
+pub enum FileUse {
+    /// To read and write them.
+    Writing,
+    /// To read them; what may be written is opened for that too, so that it can be synced and copied.
+    Reading,
+}
+
+/// A file of the log that was opened, and why it may not be written, if that is so.
+#[derive(Drop)]
+pub(crate) struct Opened {
+    pub file: File,
+    pub denied: Option<io::Error>,
+}
+
+// Whether the system says so that a file may not be written.
+fn is_denied(error: io::Error) -> bool {
+    matches!(
+        error.kind(),
+        ErrorKind::PermissionDenied | ErrorKind::ReadOnlyFilesystem
+    )
 }
 
 /// What is written to a standard stream that the caller had closed must not land in a file of the log or of a client, so a file that got the number of
@@ -32,9 +58,13 @@ pub(crate) fn above_streams(file: File) -> io::Result<File> {
 }
 
 impl Location {
-    /// The folder of this path.
-    pub fn new(rt: HostRuntime, path: String) -> Location {
-        Location { rt, path }
+    /// The folder of this path, whose files are opened for this.
+    pub fn new(rt: HostRuntime, path: String, use_of_files: FileUse) -> Location {
+        Location {
+            rt,
+            path,
+            use_of_files,
+        }
     }
 
     /// Memory.
@@ -103,8 +133,8 @@ impl Location {
         symlink_metadata(&self.rt, &self.path_of(place)?)
     }
 
-    /// Opens a file that is there to read and write it.
-    pub fn open(&self, place: Place) -> Result<File, Cause> {
+    /// Opens a file that is there.
+    pub fn open(&self, place: Place) -> Result<Opened, Cause> {
         let found = self.find(place)?;
         if found.is_symlink() {
             return Err(Cause::SymbolicLink);
@@ -112,11 +142,22 @@ impl Location {
         if !found.is_file() {
             return Err(Cause::NoRegularFile);
         }
+        let path = self.path_of(place)?;
         let opened = OpenOptions::new()
             .read(true)
             .write(true)
-            .open(&self.rt, &self.path_of(place)?)?;
-        Ok(above_streams(opened)?)
+            .open(&self.rt, &path);
+        let (opened, denied) = match opened {
+            Ok(opened) => (opened, None),
+            Err(error) if is_denied(error) && self.use_of_files == FileUse::Reading => {
+                (fs::open(&self.rt, &path)?, Some(error))
+            }
+            Err(error) => return Err(error.into()),
+        };
+        Ok(Opened {
+            file: above_streams(opened)?,
+            denied,
+        })
     }
 
     /// Makes an empty file. An error if something has its name.

@@ -5,7 +5,7 @@
 // two paths, since no bytes of theirs can be lost. A path at which nothing is found is left to its opening.
 use crate::fault::{Call, Cause, Place};
 use crate::file::{FILES, Identity};
-use crate::location::Location;
+use crate::location::{FileUse, Location};
 use crate::paths::{ClientPaths, has_no_bytes};
 use std::alloc::AllocError;
 use std::fs::{self, Metadata};
@@ -30,7 +30,7 @@ impl SeenFiles {
     pub fn of_log(rt: HostRuntime, folder: String) -> Result<SeenFiles, AllocError> {
         let seen = Vec::new(rt.alloc());
         let mut files = SeenFiles { rt, seen };
-        let location = Location::new(rt, folder);
+        let location = Location::new(rt, folder, FileUse::Reading);
         for file in 0..FILES {
             if let Ok(found) = location.find(Place::File(file)) {
                 files.push(&found, Cause::OfLog)?;
