@@ -1,5 +1,5 @@
-//! Tests of the log manager's calls: making, opening and closing a log, areas, the size, what is kept in memory, what the base file's second
-//! version brings, and a disk that plans its calls. A log of the first version becomes one of the second, and a dedicated log has one stream.
+//! Tests of the log manager's calls: making, opening and closing a log, areas, the size, what is kept in memory, and what the base file's second
+//! version brings. A log of the first version becomes one of the second, and a dedicated log has one stream.
 //!
 //! The crate has no function of its own. Its tests make public calls alone, so the manager isn't proved a second time for them.
 #![tactic(auto)]
@@ -14,5 +14,3 @@ mod logs;
 mod manager;
 #[cfg(test)]
 mod migration;
-#[cfg(test)]
-mod planned;
