@@ -5,16 +5,14 @@
  * room in its output while this side waits for room in its input.
  */
 #define _GNU_SOURCE
-#include "clfs_program.h"
+#include "clfs_connection.h"
 #include "clfs_reply.h"
 
 #include <errno.h>
 #include <poll.h>
-#include <signal.h>
 #include <stdio.h>
 #include <stdlib.h>
 #include <string.h>
-#include <sys/socket.h>
 #include <unistd.h>
 
 /* Words for `serve` that each start passes: a run may take any number of bytes. */
@@ -32,11 +30,11 @@
 struct clfs {
     struct clfs_program program;
     bool over;                      /* whether the output has ended */
-    int failed;                     /* the answer to every call from now on, or 0 */
+    unsigned number;                /* the client's number of a connection, or 0 */
     int answer, error;              /* the last answer that wasn't 0, and errno */
     struct clfs_refusal refusal;
     struct clfs_ending ending;
-    char said[128];                 /* the line that nobody knows */
+    char said[CLFS_SAID];           /* the line that nobody knows */
     char message[256];
     struct clfs_waiting waiting[CLFS_WINDOW];
     unsigned first, count;
@@ -58,13 +56,13 @@ static int told(struct clfs *log, int answer)
 static int fail(struct clfs *log, int answer)
 {
     int error = errno;
-    if (answer != CLFS_ENDED) kill(log->program.process, SIGKILL);
+    if (answer != CLFS_ENDED) clfs_stop(&log->program);
     clfs_reap(&log->program, &log->ending);
-    if (answer == CLFS_ENDED) answer = clfs_answer_of_end(&log->program, &log->ending);
     log->ending.unanswered = log->count;
+    if (answer == CLFS_ENDED) answer = clfs_answer_of_end(&log->program, &log->ending);
     errno = error;
     log->count = 0;
-    log->failed = answer;
+    log->program.failed = answer;
     return told(log, answer);
 }
 
@@ -78,7 +76,7 @@ static int take(struct clfs *log)
     do {
         ready = clfs_ready(&log->program, POLLIN);
         if (ready > 0) size = read(log->program.output, log->replies + log->filled, REPLIES_ROOM - log->filled);
-    } while (ready == 0 || (ready > 0 && size < 0 && errno == EINTR));
+    } while (ready == 0 || (ready > 0 && size < 0 && (errno == EINTR || errno == EAGAIN)));
     if (ready < 0 || size < 0) return fail(log, CLFS_SYSTEM);
     log->over = size == 0;
     log->filled += (size_t)size;
@@ -110,7 +108,7 @@ static int wait_for_room(struct clfs *log)
 static int write_lines(struct clfs *log, bool waits)
 {
     while (log->written < log->gathered) {
-        ssize_t size = send(log->program.input, log->lines + log->written, log->gathered - log->written, MSG_NOSIGNAL);
+        ssize_t size = clfs_write(&log->program, log->lines + log->written, log->gathered - log->written);
         if (size >= 0) {
             log->written += (size_t)size;
         } else if (errno == EAGAIN || errno == EWOULDBLOCK) {
@@ -130,7 +128,7 @@ static int write_lines(struct clfs *log, bool waits)
 
 int clfs_push(struct clfs *log)
 {
-    return log->failed ? log->failed : write_lines(log, true);
+    return log->program.failed ? log->program.failed : write_lines(log, true);
 }
 
 /* The next line of the output, without its line feed, and a zero in its place; NULL for the end, or for a line that no reply is as long as. */
@@ -169,17 +167,16 @@ static int last_line(struct clfs *log, const char *line, size_t length)
     if (!log->over) return fail(log, CLFS_UNKNOWN_REPLY);
     fail(log, CLFS_ENDED);
     bool known = log->ending.status >= 0 || log->ending.signal;
-    if (known && log->ending.status != status) return log->failed = told(log, CLFS_UNKNOWN_REPLY);
+    if (known && log->ending.status != status) return log->program.failed = told(log, CLFS_UNKNOWN_REPLY);
     log->ending.status = status;
-    return log->failed = told(log, clfs_answer_of_end(&log->program, &log->ending));
+    return log->program.failed = told(log, clfs_answer_of_end(&log->program, &log->ending));
 }
 
-int clfs_await(struct clfs *log, struct clfs_reply *reply)
+/* The answer to the first line under way. */
+static int await_line(struct clfs *log, struct clfs_reply *reply)
 {
     char *line;
     size_t length;
-    if (log->failed) return log->failed;
-    if (log->count == 0) return told(log, CLFS_NOTHING);
     int answer = next_line(log, &line, &length);
     if (answer) return answer;
     if (!line) return fail(log, log->over ? CLFS_ENDED : CLFS_UNKNOWN_REPLY);
@@ -189,6 +186,27 @@ int clfs_await(struct clfs *log, struct clfs_reply *reply)
     log->first = (log->first + 1) % CLFS_WINDOW;
     log->count--;
     return answer ? told(log, answer) : 0;
+}
+
+/* The answer to an append and to the flush after it: that of the append, unless only the flush was refused. */
+static int await_both(struct clfs *log, struct clfs_reply *reply)
+{
+    int appended = await_line(log, reply);
+    if (appended < 0) return appended;
+    struct clfs_refusal refusal = log->refusal;
+    clfs_lsn lsn = reply->lsn;
+    int flushed = await_line(log, reply);
+    reply->lsn = lsn;
+    if (flushed < 0 || !appended) return flushed;
+    log->refusal = refusal;
+    return told(log, appended);
+}
+
+int clfs_await(struct clfs *log, struct clfs_reply *reply)
+{
+    if (log->program.failed) return log->program.failed;
+    if (log->count == 0) return told(log, CLFS_NOTHING);
+    return log->waiting[log->first].has_flush ? await_both(log, reply) : await_line(log, reply);
 }
 
 /* Putting a line together. */
@@ -244,33 +262,58 @@ static void add_numbers(struct clfs *log, const uint32_t *numbers, size_t count)
     for (size_t at = 0; at < count; at++) add_number(log, numbers[at]);
 }
 
-/* Begins a line, with room for so many bytes beside its short words. */
+/* Begins a line, for which there is room. */
+static void begin_line(struct clfs *log, unsigned client, const char *verb)
+{
+    log->line = log->gathered;
+    add_decimal(log, client);
+    add_word(log, verb);
+    log->waiting[(log->first + log->count) % CLFS_WINDOW].client = client;
+}
+
+/* Begins a line, with room for so many bytes beside its short words, and for a flush after it. */
 static int begin(struct clfs *log, unsigned client, const char *verb, size_t room)
 {
-    if (log->failed) return log->failed;
-    if (room > LONGEST_LINE) return told(log, CLFS_UNSAYABLE);
+    if (log->program.failed) return log->program.failed;
+    if (room > LONGEST_LINE || (log->number && client && client != log->number)) return told(log, CLFS_UNSAYABLE);
     if (log->count == CLFS_WINDOW) return told(log, CLFS_BUSY);
     if (LINES_ROOM - log->gathered < room + SHORT_LINE) {
         int answer = write_lines(log, true);
         if (answer) return answer;
     }
-    log->line = log->gathered;
-    add_decimal(log, client);
-    add_word(log, verb);
-    log->waiting[(log->first + log->count) % CLFS_WINDOW].client = client;
+    begin_line(log, log->number ? log->number : client, verb);
     return 0;
 }
 
 /* Ends a line. From now on it is under way. */
-static int finish(struct clfs *log, enum clfs_kind kind)
+static int end_line(struct clfs *log, enum clfs_kind kind, bool has_flush)
 {
     if (log->gathered - log->line > LONGEST_LINE) {
         log->gathered = log->line;
         return told(log, CLFS_UNSAYABLE);
     }
     log->lines[log->gathered++] = '\n';
-    log->waiting[(log->first + log->count++) % CLFS_WINDOW].kind = kind;
-    return log->gathered - log->written < GATHERED ? 0 : write_lines(log, false);
+    struct clfs_waiting *waiting = &log->waiting[(log->first + log->count++) % CLFS_WINDOW];
+    waiting->kind = kind;
+    waiting->has_flush = has_flush;
+    return 0;
+}
+
+static int finish(struct clfs *log, enum clfs_kind kind)
+{
+    int answer = end_line(log, kind, false);
+    return answer || log->gathered - log->written < GATHERED ? answer : write_lines(log, false);
+}
+
+/* Ends an append whose flush is a line of its own, and writes that after it: connections that send both at about the same time share a sync, as one
+ * line that does both never does. */
+static int finish_with_flush(struct clfs *log, unsigned area)
+{
+    int answer = end_line(log, LSN, true);
+    if (answer) return answer;
+    begin_line(log, log->number, "flush");
+    add_number(log, area);
+    return finish(log, FLUSHED);
 }
 
 /* Begins a line with an area. */
@@ -284,7 +327,7 @@ static int begin_area(struct clfs *log, unsigned client, const char *verb, unsig
 /* A call that waits has no line under way before its own. */
 static int alone(struct clfs *log)
 {
-    return log->count && !log->failed ? told(log, CLFS_BUSY) : 0;
+    return log->count && !log->program.failed ? told(log, CLFS_BUSY) : 0;
 }
 
 static int begin_alone(struct clfs *log, unsigned client, const char *verb, size_t room)
@@ -337,7 +380,9 @@ static int answer_ok(struct clfs *log, int sent)
 
 int clfs_send_append(struct clfs *log, unsigned client, unsigned area, const struct clfs_draft *draft)
 {
-    if (draft->size > LONGEST_LINE / 2 || draft->holds > MOST_LENGTHS) return log->failed ? log->failed : told(log, CLFS_UNSAYABLE);
+    if (draft->size > LONGEST_LINE / 2 || draft->holds > MOST_LENGTHS) return log->program.failed ? log->program.failed : told(log, CLFS_UNSAYABLE);
+    bool has_flush = draft->flush && log->number;
+    if (has_flush && log->count == CLFS_WINDOW - 1) return told(log, CLFS_BUSY);
     int answer = begin_area(log, client, "append", area, 2 * draft->size);
     if (answer) return answer;
     add_data(log, draft->data, draft->size);
@@ -345,10 +390,10 @@ int clfs_send_append(struct clfs *log, unsigned client, unsigned area, const str
     add_lsn(log, draft->undo_next);
     if (draft->reserved) add_word(log, "reserved");
     if (draft->seal) add_word(log, "seal");
-    if (draft->flush) add_word(log, "flush");
+    if (draft->flush && !has_flush) add_word(log, "flush");
     if (draft->holds) add_word(log, "hold");
     add_numbers(log, draft->hold, draft->holds);
-    return finish(log, LSN);
+    return has_flush ? finish_with_flush(log, area) : finish(log, LSN);
 }
 
 int clfs_append(struct clfs *log, unsigned client, unsigned area, const struct clfs_draft *draft, clfs_lsn *lsn)
@@ -435,7 +480,7 @@ static bool is_word(const char *name)
 
 int clfs_open(struct clfs *log, unsigned client, const char *name, unsigned *stream)
 {
-    if (!is_word(name)) return log->failed ? log->failed : told(log, CLFS_UNSAYABLE);
+    if (!is_word(name)) return log->program.failed ? log->program.failed : told(log, CLFS_UNSAYABLE);
     int sent = begin_alone(log, client, "open", strlen(name));
     if (sent) return sent;
     add_word(log, name);
@@ -631,13 +676,41 @@ int clfs_start(struct clfs **log, const struct clfs_options *options)
     return CLFS_SYSTEM;
 }
 
+/* Begins a handle with the answer of its connection. */
+static int begun(struct clfs **log, int answer)
+{
+    int error = errno;
+    if (answer) (*log)->ending.status = -1;
+    if (answer) (*log)->program.failed = told(*log, answer);
+    if (answer == CLFS_SYSTEM) {
+        free(*log);
+        *log = NULL;
+    }
+    errno = error;
+    return answer;
+}
+
+int clfs_connect(struct clfs **log, const char *place, int milliseconds)
+{
+    *log = calloc(1, sizeof **log);
+    return !*log ? CLFS_SYSTEM : begun(log, clfs_visit(&(*log)->program, place, milliseconds, (*log)->said, &(*log)->number));
+}
+
+int clfs_attach(struct clfs **log, unsigned number, const char *in, const char *out, int milliseconds)
+{
+    *log = calloc(1, sizeof **log);
+    if (!*log) return CLFS_SYSTEM;
+    (*log)->number = number;
+    return begun(log, number ? clfs_pair(&(*log)->program, in, out, milliseconds, (*log)->said) : CLFS_UNSAYABLE);
+}
+
 /* Writes what was gathered, ends the input, and throws away what is answered up to the end. */
 static int end_input(struct clfs *log)
 {
     bool ended = false;
     while (!log->over) {
         int answer = ended ? 0 : write_lines(log, true);
-        if (!answer && !ended) ended = !shutdown(log->program.input, SHUT_WR) || errno != EINTR;
+        if (!answer && !ended) ended = clfs_end_input(&log->program);
         for (; log->taken < log->filled; log->taken++) log->count -= log->count && log->replies[log->taken] == '\n';
         log->taken = log->looked = log->filled = 0;
         if (!answer) answer = take(log);
@@ -649,7 +722,7 @@ static int end_input(struct clfs *log)
 int clfs_close(struct clfs *log, struct clfs_ending *ending)
 {
     if (!log) return 0;
-    int answer = log->failed ? log->failed : end_input(log);
+    int answer = log->program.failed ? log->program.failed : end_input(log);
     if (answer == CLFS_ENDED && log->ending.status == 0 && log->ending.unanswered == 0) answer = 0;
     if (ending) *ending = log->ending;
     free(log);
@@ -657,6 +730,8 @@ int clfs_close(struct clfs *log, struct clfs_ending *ending)
 }
 
 pid_t clfs_process(const struct clfs *log) { return log->program.process; }
+
+unsigned clfs_number(const struct clfs *log) { return log->number ? log->number : 1; }
 
 unsigned clfs_under_way(const struct clfs *log) { return log->count; }
 
@@ -667,7 +742,7 @@ static int status_after(struct clfs *log)
         int answer = take(log);
         if (answer) return answer;
     }
-    if (!log->over) kill(log->program.process, SIGKILL);
+    if (!log->over) clfs_stop(&log->program);
     if (!log->over || (log->filled && log->replies[log->filled - 1] == '\n')) log->filled--;
     log->replies[log->filled] = 0;
     clfs_reap(&log->program, &log->ending);
@@ -708,20 +783,17 @@ const struct clfs_ending *clfs_ended(const struct clfs *log) { return &log->endi
 const char *clfs_message(struct clfs *log)
 {
     if (!log) return strerror(errno);
+    int answer = log->program.failed ? log->program.failed : log->answer;
     char *to = log->message;
     size_t room = sizeof log->message;
-    switch (log->answer) {
+    switch (answer) {
     case CLFS_ENDED: clfs_ending_text(&log->ending, to, room); break;
+    case CLFS_SERVICE_ENDED: snprintf(to, room, "the service has ended (lines without a reply: %u)", log->ending.unanswered); break;
     case CLFS_UNKNOWN_REPLY: snprintf(to, room, "unknown reply: %s", log->said); break;
     case CLFS_SYSTEM: snprintf(to, room, "the system: %s", strerror(log->error)); break;
-    case CLFS_UNSAYABLE: snprintf(to, room, "no line of the language can say it"); break;
-    case CLFS_BUSY: snprintf(to, room, "lines are under way: take a reply first"); break;
-    case CLFS_NOTHING: snprintf(to, room, "no line is under way"); break;
-    case CLFS_LOCKED: snprintf(to, room, "locked: another process has the folder"); break;
-    case CLFS_NO_FOLDER: snprintf(to, room, "there is no such folder"); break;
-    case CLFS_NO_PERMISSION: snprintf(to, room, "no permission for the folder or a file of it"); break;
-    case CLFS_DONE: snprintf(to, room, "done"); break;
-    default: clfs_refusal_text(&log->refusal, to, room); break;
+    default:
+        if (answer > 0) clfs_refusal_text(&log->refusal, to, room);
+        else snprintf(to, room, "%s", clfs_answer_text(answer));
     }
     return log->message;
 }

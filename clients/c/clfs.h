@@ -1,4 +1,5 @@
-/* A client of the log manager clfs, for C11 and POSIX: it starts the program over a folder, sends lines of the script and reads the replies.
+/* A client of the log manager clfs, for C11 and POSIX: it starts the program over a folder, or comes to a service, sends lines of the script and reads
+ * the replies.
  *
  *     struct clfs *log;
  *     unsigned stream, area;
@@ -14,7 +15,7 @@
  * of enum clfs_answer, at which the line has no reply. What a call gives is set only if it answers 0.
  *
  * A record is safe once a flush was answered: an append with .flush, clfs_flush, clfs_flush_to, clfs_restart, clfs_advance. Closing doesn't
- * flush. A handle is for one thread at a time. Memory is taken in clfs_start, and no call after it takes any.
+ * flush. A handle is for one thread at a time. Memory is taken in clfs_start, clfs_connect and clfs_attach, and no call after it takes any.
  */
 #ifndef CLFS_H
 #define CLFS_H
@@ -28,7 +29,7 @@
 extern "C" {
 #endif
 
-/* A program that serves a log. */
+/* A program that serves a log, or a connection to a service. */
 struct clfs;
 
 /* Where a record lies: container * 2^32 + offset + sequence. Later records have greater LSNs. */
@@ -81,7 +82,8 @@ enum clfs_answer {
     CLFS_UNKNOWN_REPLY = -2,
     /* A call of the system failed; errno says why. */
     CLFS_SYSTEM = -3,
-    /* No line can say it: it would have more than 131,072 bytes, or a name isn't one word. Nothing was sent. */
+    /* No line can say it: it would have more than 131,072 bytes, a name isn't one word, or it is another client's than the connection's. Nothing was
+     * sent. */
     CLFS_UNSAYABLE = -4,
     /* Too much is under way, or a call that waits was made while lines were. Nothing was sent; take a reply by clfs_await first. */
     CLFS_BUSY = -5,
@@ -92,7 +94,16 @@ enum clfs_answer {
      * folder, or the folder or a file of it may not be read or written. */
     CLFS_LOCKED = -7,
     CLFS_NO_FOLDER = -8,
-    CLFS_NO_PERMISSION = -9
+    CLFS_NO_PERMISSION = -9,
+
+    /* Of connections. Nobody serves there, or the service ended before it gave a number. */
+    CLFS_NO_SERVICE = -10,
+    /* The service gave no number in time: all that it has are taken. */
+    CLFS_NO_FREE_NUMBER = -11,
+    /* In place of CLFS_ENDED: the service has ended, or has ended the visit. */
+    CLFS_SERVICE_ENDED = -12,
+    /* The connection is that of the process from which this one was forked. */
+    CLFS_OTHER_PROCESS = -13
 };
 
 /* The fields of a refusal. Those without fields are left out. */
@@ -136,7 +147,7 @@ enum clfs_status {
 
 /* How the program has ended. */
 struct clfs_ending {
-    int status;             /* its exit status; -1 if a signal ended it, or if the caller's process ignores SIGCHLD and so can't know */
+    int status;             /* its exit status; -1 if a signal ended it, if the caller's process ignores SIGCHLD and so can't know, or of a service */
     int signal;             /* that signal, or 0 */
     unsigned unanswered;    /* lines without a reply */
     bool has_place;         /* at CLFS_STATUS_NOT_A_LOG: whether bytes at a place aren't a log's; else no base copy counts */
@@ -204,12 +215,31 @@ struct clfs_options {
  * so what `errors` leads to may be of any kind, but where it takes nothing for a second a part is left out. After each answer but CLFS_SYSTEM there is a handle, which is to be closed. */
 int clfs_start(struct clfs **log, const struct clfs_options *options);
 
-/* Ends the input, waits for the end of the program and frees the handle. What isn't flushed is gone, and replies under way are thrown away.
- * Answers 0 if the program ended with status 0 and had answered all lines, else CLFS_ENDED. The ending is told if it isn't NULL. */
+/* Ends the input, waits for the end of the program, or of the visit to a service, and frees the handle. What isn't flushed is gone with the program, and
+ * replies under way are thrown away. Answers 0 if the program ended with status 0 and had answered all lines, else CLFS_ENDED, or what made the handle
+ * useless before. The ending is told if it isn't NULL. */
 int clfs_close(struct clfs *log, struct clfs_ending *ending);
 
-/* The process of the program. To kill it is as a crash: the next call answers CLFS_ENDED. */
+/* The process of the program; 0 of a connection. To kill it is as a crash: the next call answers CLFS_ENDED. */
 pid_t clfs_process(const struct clfs *log);
+
+/* Connections to a service, `clfs FOLDER share`, beside other programs. Each is a handle as that of clfs_start, of one client: its calls name that
+ * client's number, or 0 in its place, and with another one they answer CLFS_UNSAYABLE. It begins without areas, and the end of the visit deletes those
+ * that it made. An append with .flush is two lines, the append and a flush, and is answered with the second: so connections share a sync. If the append
+ * is refused, the log is flushed all the same. When the service has ended, connect again: nothing is done anew, and areas are to be made again.
+ *
+ * To connect may answer CLFS_NO_SERVICE, CLFS_NO_FREE_NUMBER, CLFS_UNKNOWN_REPLY or CLFS_SYSTEM. After each answer but CLFS_SYSTEM there is a handle,
+ * which is to be closed. It waits for so many milliseconds, without a limit if they are negative; calls wait without a limit. In a child that is forked
+ * the pipes are closed, each call answers CLFS_OTHER_PROCESS, and clfs_close frees the handle. */
+
+/* Comes to the service whose door is in the folder `place`, as the next client whose number is free. */
+int clfs_connect(struct clfs **log, const char *place, int milliseconds);
+
+/* Comes as this client of `clfs FOLDER share IN OUT ..`, by that client's pair of named pipes. Each pair serves once. */
+int clfs_attach(struct clfs **log, unsigned number, const char *in, const char *out, int milliseconds);
+
+/* The number of a connection's client; 1 of a program of the caller's own, whose calls may name any from 1 to 64. */
+unsigned clfs_number(const struct clfs *log);
 
 struct clfs_sizes {
     const char *folder;
@@ -262,7 +292,7 @@ int clfs_reopen(struct clfs *log, unsigned client, clfs_lsn *flushed);
 
 /* Many lines under way. A line is sent without waiting; clfs_await gives the replies, in the order of the lines. Lines are gathered, and written
  * when a reply is waited for, when there are 64 KiB of them, and by clfs_push. At most CLFS_WINDOW lines are under way: then, and if replies
- * that weren't taken fill the handle's room, sending answers CLFS_BUSY. */
+ * that weren't taken fill the handle's room, sending answers CLFS_BUSY. An append of two lines counts as two, and clfs_await gives one answer to it. */
 
 #define CLFS_WINDOW 4096
 

@@ -6,7 +6,7 @@
  * the program though a child of the caller has a copy of it.
  */
 #define _GNU_SOURCE
-#include "clfs_program.h"
+#include "clfs_connection.h"
 
 #include <errno.h>
 #include <fcntl.h>
@@ -35,8 +35,7 @@ static const struct {
 
 /* Starting. */
 
-/* Moves a descriptor out of the way of the standard streams. */
-static int above_standard(int from)
+int clfs_above_standard(int from)
 {
     if (from < 0 || from > 2) return from;
     int to = fcntl(from, F_DUPFD_CLOEXEC, 3);
@@ -80,18 +79,20 @@ static int spawn(pid_t *process, char *const words[], const int streams[3])
     return error;
 }
 
-static void close_one(int *descriptor)
+void clfs_close_one(int *descriptor)
 {
     if (*descriptor >= 0) close(*descriptor);
     *descriptor = -1;
 }
 
-static void close_pipes(struct clfs_program *program)
+void clfs_close_pipes(struct clfs_program *program)
 {
-    close_one(&program->input);
-    close_one(&program->output);
-    close_one(&program->errors);
-    close_one(&program->pass_to);
+    clfs_close_one(&program->input);
+    clfs_close_one(&program->output);
+    clfs_close_one(&program->errors);
+    clfs_close_one(&program->pass_to);
+    clfs_close_one(&program->guard);
+    clfs_close_one(&program->door);
 }
 
 /* A copy of where standard error goes on to. The caller may have no standard error. */
@@ -109,7 +110,7 @@ static int open_pipes(struct clfs_program *program, int streams[3])
     if (socketpair(AF_UNIX, SOCK_STREAM | SOCK_CLOEXEC, 0, pairs[0]) || pipe2(pairs[1], O_CLOEXEC) || pipe2(pairs[2], O_CLOEXEC)) error = errno;
     for (int pair = 0; pair < 3; pair++) {
         for (int end = 0; end < 2; end++) {
-            pairs[pair][end] = above_standard(pairs[pair][end]);
+            pairs[pair][end] = clfs_above_standard(pairs[pair][end]);
             if (pairs[pair][end] < 0 && !error) error = errno;
         }
         streams[pair] = pairs[pair][1];
@@ -123,13 +124,13 @@ static int open_pipes(struct clfs_program *program, int streams[3])
 int clfs_launch(struct clfs_program *program, char *const words[], int errors)
 {
     int streams[3] = {-1, -1, -1};
-    *program = (struct clfs_program){.input = -1, .output = -1, .errors = -1, .pass_to = -1};
+    *program = CLFS_NOTHING_OPEN;
     int error = open_pass_to(program, errors);
     if (!error) error = open_pipes(program, streams);
     if (!error && (fcntl(program->input, F_SETFL, O_NONBLOCK) || fcntl(program->errors, F_SETFL, O_NONBLOCK))) error = errno;
     if (!error) error = spawn(&program->process, words, streams);
-    for (int stream = 0; stream < 3; stream++) close_one(&streams[stream]);
-    if (error) close_pipes(program);
+    for (int stream = 0; stream < 3; stream++) clfs_close_one(&streams[stream]);
+    if (error) clfs_close_pipes(program);
     return error;
 }
 
@@ -149,8 +150,7 @@ static void look(struct clfs_program *program, char byte)
     }
 }
 
-/* A write that raises no signal, though nobody reads there. (On Linux the mask is that of the thread alone.) */
-static ssize_t write_silently(int to, const char *bytes, size_t size)
+ssize_t clfs_write_silently(int to, const char *bytes, size_t size)
 {
     sigset_t only, before, pending;
     sigemptyset(&only);
@@ -170,7 +170,7 @@ static void pass_on(struct clfs_program *program, const char *bytes, size_t size
     while (size > 0) {
         int ready = poll(&target, 1, program->is_stuck ? 0 : LONGEST_WAIT);
         if (ready < 0 && errno == EINTR) continue;
-        ssize_t written = ready > 0 && target.revents == POLLOUT ? write_silently(program->pass_to, bytes, size) : -1;
+        ssize_t written = ready > 0 && target.revents == POLLOUT ? clfs_write_silently(program->pass_to, bytes, size) : -1;
         program->is_stuck = written < 0;
         if (written < 0) return;
         bytes += written;
@@ -185,7 +185,7 @@ static bool take_errors(struct clfs_program *program)
     ssize_t size = read(program->errors, piece, sizeof piece);
     if (size < 0 && (errno == EAGAIN || errno == EWOULDBLOCK || errno == EINTR)) return false;
     if (size <= 0) {
-        close_one(&program->errors);
+        clfs_close_one(&program->errors);
         return false;
     }
     for (ssize_t at = 0; at < size; at++) look(program, piece[at]);
@@ -207,11 +207,33 @@ int clfs_ready(struct clfs_program *program, int wanted)
     return (pipes[0].revents ? POLLIN : 0) | (pipes[1].revents ? POLLOUT : 0);
 }
 
+ssize_t clfs_write(struct clfs_program *program, const char *bytes, size_t size)
+{
+    return program->is_connection ? clfs_write_silently(program->input, bytes, size) : send(program->input, bytes, size, MSG_NOSIGNAL);
+}
+
+bool clfs_end_input(struct clfs_program *program)
+{
+    if (!program->is_connection) return !shutdown(program->input, SHUT_WR) || errno != EINTR;
+    clfs_leave(program);
+    return true;
+}
+
+void clfs_stop(struct clfs_program *program)
+{
+    if (!program->is_connection) kill(program->process, SIGKILL);
+}
+
 /* The process is waited for while its standard error is read, and no longer than for the process: a child of its may keep its standard error. */
 void clfs_reap(struct clfs_program *program, struct clfs_ending *ending)
 {
     int status = 0;
     pid_t reaped;
+    if (program->is_connection) {
+        ending->status = program->has_left ? 0 : -1;
+        clfs_let_go(program);
+        return;
+    }
     do {
         struct pollfd errors = {.fd = program->errors, .events = POLLIN};
         if (program->errors >= 0 && poll(&errors, 1, SHORT_WAIT) > 0) take_errors(program);
@@ -221,11 +243,12 @@ void clfs_reap(struct clfs_program *program, struct clfs_ending *ending)
     bool known = reaped == program->process;
     ending->status = known && WIFEXITED(status) ? WEXITSTATUS(status) : -1;
     ending->signal = known && WIFSIGNALED(status) ? WTERMSIG(status) : 0;
-    close_pipes(program);
+    clfs_close_pipes(program);
 }
 
 int clfs_answer_of_end(const struct clfs_program *program, const struct clfs_ending *ending)
 {
+    if (program->is_connection) return program->has_left && !ending->unanswered ? CLFS_ENDED : CLFS_SERVICE_ENDED;
     bool failed = ending->status == CLFS_STATUS_DISK_FAILED;
     bool is_none = ending->status == CLFS_STATUS_NOT_A_LOG && program->cause == CLFS_NO_FOLDER;
     return program->cause && (failed || is_none) ? program->cause : CLFS_ENDED;

@@ -268,6 +268,22 @@ int clfs_status_after(const char *line, size_t length, struct clfs_ending *endin
     return CLFS_STATUS_NOT_A_LOG;
 }
 
+const char *clfs_answer_text(int answer)
+{
+    switch (answer) {
+    case CLFS_UNSAYABLE: return "no line of the language can say it";
+    case CLFS_BUSY: return "lines are under way: take a reply first";
+    case CLFS_NOTHING: return "no line is under way";
+    case CLFS_LOCKED: return "locked: another process has the folder";
+    case CLFS_NO_FOLDER: return "there is no such folder";
+    case CLFS_NO_PERMISSION: return "no permission for the folder or a file of it";
+    case CLFS_NO_SERVICE: return "nobody serves there";
+    case CLFS_NO_FREE_NUMBER: return "the service has given no number in time";
+    case CLFS_OTHER_PROCESS: return "the connection is that of the process from which this one was forked";
+    default: return "done";
+    }
+}
+
 void clfs_refusal_text(const struct clfs_refusal *refusal, char *text, size_t room)
 {
     const char *fields = refusals[refusal->number].fields;

@@ -11,10 +11,11 @@ enum clfs_kind {
     NO_REPLY, STREAM, AREA, OK, HELD, SECTORS, LSN, FLUSHED, FOUND, RECORD, BASE, TAIL, EXTENTS, CONTAINERS, INFO
 };
 
-/* A line under way: its client, and the reply that it wants. */
+/* A line under way: its client, the reply that it wants, and whether the next line is its flush, with which it is answered. */
 struct clfs_waiting {
     uint32_t client;
     enum clfs_kind kind;
+    bool has_flush;
 };
 
 /* What a reply is read into. */
@@ -32,7 +33,8 @@ int clfs_judge(char *line, size_t length, struct clfs_waiting waiting, struct cl
  * does. */
 int clfs_status_after(const char *line, size_t length, struct clfs_ending *ending);
 
-/* A refusal, and an ending, in words. */
+/* An answer without fields, a refusal, and an ending, in words. */
+const char *clfs_answer_text(int answer);
 void clfs_refusal_text(const struct clfs_refusal *refusal, char *text, size_t room);
 void clfs_ending_text(const struct clfs_ending *ending, char *text, size_t room);
 

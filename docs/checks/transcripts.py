@@ -167,8 +167,8 @@ def compiled(folder, language, source):
     made, clients = place.with_suffix(""), folder.top / "clients"
     if language == "c":
         compiler = next(filter(shutil.which, ("cc", "gcc", "clang")), None)
-        parts = [str(clients / "c" / name) for name in ("clfs.c", "clfs_reply.c", "clfs_program.c")]
-        words = [[compiler, "-std=c11", "-D_GNU_SOURCE", "-I", str(clients / "c"), "-o", str(made), str(place), *parts]]
+        parts = [str(clients / "c" / name) for name in ("clfs.c", "clfs_reply.c", "clfs_program.c", "clfs_connection.c")]
+        words = [[compiler, "-std=c11", "-D_GNU_SOURCE", "-I", str(clients / "c"), "-o", str(made), str(place), *parts, "-pthread"]]
     else:
         compiler, library = shutil.which("rustc"), place.parent / "libclfs.rlib"
         rust = [compiler, "--edition", "2021", "-A", "warnings"]

@@ -1,4 +1,7 @@
-//! A bank whose money is moved at random while its log is killed at random: cargo run --example bank -- [PROGRAM [KILLS]]
+//! A bank whose money is moved at random while its log is killed at random: cargo run --example bank -- [PROGRAM [KILLS [PLACE]]]
+//!
+//! With PLACE, a folder, the bank comes to a service by the door that is made there, and either the service is killed, or the visit ends at some step, as
+//! if the bank's program had died.
 //!
 //! A transfer takes money from one account and gives it to another, each by a record `move ACCOUNT AMOUNT`. The records of a transfer are linked:
 //! `previous` names its record before, and `undo_next` the record that is to be undone after this one. It ends with `commit`, which is flushed,
@@ -12,8 +15,9 @@ use clfs::{Area, Draft, End, Ending, Error, Kind, Log, Lsn, Mode, Options, Recor
 use std::collections::hash_map::RandomState;
 use std::collections::HashSet;
 use std::hash::{BuildHasher, Hasher};
+use std::io::{self, Read};
 use std::path::{Path, PathBuf};
-use std::process::Command;
+use std::process::{Child, Command, Stdio};
 use std::time::{Duration, Instant};
 
 const ACCOUNTS: usize = 100;
@@ -22,7 +26,8 @@ const AT_ONCE: usize = 3;
 const STEPS: usize = 3;
 /// No record of a transfer is longer.
 const A_RECORD: u32 = 40;
-const ME: u8 = 1;
+/// So long a connection waits for its number.
+const PATIENCE: Duration = Duration::from_secs(10);
 
 /// The balances, and the log from which they come again after a crash.
 struct Bank<'a> {
@@ -55,8 +60,8 @@ impl Entry {
 
 impl Bank<'_> {
     fn open(log: &mut Log) -> Result<Bank<'_>, Error> {
-        let stream = log.open(ME, "bank")?;
-        let area = log.area(ME, stream, 1000, 2)?;
+        let stream = log.open(log.number(), "bank")?;
+        let area = log.area(log.number(), stream, 1000, 2)?;
         let mut bank = Bank { log, area, balances: vec![MONEY; ACCOUNTS] };
         bank.recover()?;
         Ok(bank)
@@ -189,14 +194,47 @@ impl Transfer {
     }
 }
 
+/// A service, by the door in a place.
+struct Service {
+    place: PathBuf,
+    program: Child,
+}
+
+impl Service {
+    /// Starts one over the log, and waits until it is ready.
+    fn start(program: &str, folder: &Path, place: &Path) -> io::Result<Service> {
+        let mut command = Command::new(program);
+        command.arg(folder).arg("share").arg("--door").arg(place).args(["--clients", "1"]);
+        let mut program = command.stdout(Stdio::piped()).spawn()?;
+        let said = program.stdout.take().map(|mut output| output.read_exact(&mut [0; 6]));
+        said.expect("the output is a pipe")?;
+        Ok(Service { place: place.to_owned(), program })
+    }
+}
+
+impl Drop for Service {
+    fn drop(&mut self) {
+        let _ = self.program.kill();
+        let _ = self.program.wait();
+    }
+}
+
+fn make_door(place: &Path) -> io::Result<()> {
+    std::fs::create_dir_all(place)?;
+    Command::new("mkfifo").args(["-m", "600"]).arg(place.join("door")).status().map(drop)
+}
+
 /// Runs banks on one folder, and knows what each has to find there.
 struct Trial {
     folder: PathBuf,
     program: String,
+    service: Option<Service>,
     known: Vec<i64>,
     transfers: Vec<Transfer>,
     starts: usize,
     committed: usize,
+    /// After as many steps the visit ends.
+    steps_left: usize,
 }
 
 impl Trial {
@@ -222,6 +260,10 @@ impl Trial {
             while self.transfers.iter().any(|transfer| transfer.steps < STEPS) {
                 let transfer = &mut self.transfers[random_below(AT_ONCE)];
                 if transfer.steps < STEPS {
+                    self.steps_left -= 1;
+                    if self.steps_left == 0 {
+                        bank.log.kill()?;
+                    }
                     transfer.step(bank)?;
                     if transfer.committed {
                         transfer.apply(&mut self.known);
@@ -233,8 +275,12 @@ impl Trial {
         bank.checkpoint()
     }
 
+    /// A log, by a program of its own or by the service.
     fn start(&self) -> Result<Log, Error> {
-        Options::with_program(&self.folder, &self.program).start()
+        match &self.service {
+            Some(service) => Log::connect(&service.place, PATIENCE),
+            None => Options::with_program(&self.folder, &self.program).start(),
+        }
     }
 
     /// Opens the bank and moves money: once, or for as long as there is a log.
@@ -252,26 +298,60 @@ impl Trial {
     /// Until a kill at some moment within this time, be it while the bank is opened, moves money, or undoes.
     fn run_until_killed(&mut self, within: Duration) -> Result<(), Error> {
         let mut log = self.start()?;
-        let process = log.id();
+        if self.service.is_some() && random_below(2) == 0 {
+            return self.run_until_step(&mut log);
+        }
+        let process = self.service.as_ref().map_or(log.id(), |service| service.program.id());
         let after = within.mul_f64(random_below(1000) as f64 / 1000.0);
         let killer = std::thread::spawn(move || {
             std::thread::sleep(after);
             Command::new("sh").args(["-c", &format!("kill -9 {process}")]).status()
         });
+        self.steps_left = usize::MAX;
         let ended = self.run(&mut log, true);
         killer.join().expect("the killer").map_err(Error::System)?;
-        match ended {
-            Err(Error::Ended(Ending { end: End::Signal(9), .. })) => Ok(()),
+        match (ended, self.service.take()) {
+            (Err(Error::Ended(Ending { end: End::Signal(9), .. })), None) => Ok(()),
+            (Err(Error::Ended(Ending { end: End::ServiceEnded, .. })), Some(mut killed)) => {
+                killed.program.wait().map_err(Error::System)?;
+                self.service = Some(Service::start(&self.program, &self.folder, &killed.place).map_err(Error::System)?);
+                Ok(())
+            }
+            (ended, _) => ended,
+        }
+    }
+
+    /// Until the visit ends at some step. The next one begins once this has ended: until then lines of it may still be done.
+    fn run_until_step(&mut self, log: &mut Log) -> Result<(), Error> {
+        self.steps_left = 1 + random_below(5 * AT_ONCE * STEPS);
+        match self.run(log, true) {
+            Err(Error::Ended(Ending { end: End::Well, .. })) => Ok(()),
             ended => ended,
         }
     }
 }
 
-fn trial(folder: &Path, program: String, kills: usize) -> Result<(), Error> {
+fn trial(folder: &Path, program: String, kills: usize, place: Option<&Path>) -> Result<(), Error> {
     let sizes = Sizes { block_sectors: 8, container_sectors: 64, containers: 4, dedicated: false };
     clfs::format(folder, &sizes, &program)?;
+    let service = match place {
+        Some(place) => {
+            make_door(place).map_err(Error::System)?;
+            Some(Service::start(&program, folder, place).map_err(Error::System)?)
+        }
+        None => None,
+    };
     let known = vec![MONEY; ACCOUNTS];
-    let mut trial = Trial { folder: folder.to_owned(), program, known, transfers: Vec::new(), starts: 0, committed: 0 };
+    let mut trial = Trial {
+        folder: folder.to_owned(),
+        program,
+        service,
+        known,
+        transfers: Vec::new(),
+        starts: 0,
+        committed: 0,
+        steps_left: usize::MAX,
+    };
     let began = Instant::now();
     let mut log = trial.start()?;
     trial.run(&mut log, false)?;
@@ -280,7 +360,8 @@ fn trial(folder: &Path, program: String, kills: usize) -> Result<(), Error> {
     for _ in 0..kills {
         trial.run_until_killed(within)?;
     }
-    println!("killed {kills} times; {} transfers, and the sum was right after each of {} starts", trial.committed, trial.starts);
+    let over = if place.is_some() { " over a service" } else { "" };
+    println!("killed {kills} times{over}; {} transfers, and the sum was right after each of {} starts", trial.committed, trial.starts);
     Ok(())
 }
 
@@ -288,8 +369,9 @@ fn main() -> Result<(), Box<dyn std::error::Error>> {
     let mut words = std::env::args().skip(1);
     let program = words.next().unwrap_or("clfs".to_owned());
     let kills = words.next().map_or(Ok(100), |word| word.parse())?;
+    let place = words.next().map(PathBuf::from);
     let folder = std::env::temp_dir().join(format!("clfs-bank-{}", std::process::id()));
-    let done = trial(&folder, program, kills);
+    let done = trial(&folder, program, kills, place.as_deref());
     std::fs::remove_dir_all(&folder)?;
     Ok(done?)
 }

@@ -10,7 +10,7 @@ pub enum Error {
     /// The log refused the call. Except after [`Refusal::DiskFault`] and [`Refusal::Damaged`] it is as it was; after these two it is broken until
     /// the next start.
     Refused(Refusal),
-    /// The program has ended or was killed.
+    /// The program, or the service of a connection, has ended or was killed.
     Ended(Ending),
     /// The program wrote a line that the language doesn't have. What it means is not guessed; the program was killed.
     UnknownReply(String),
@@ -22,6 +22,12 @@ pub enum Error {
     NotAWord(String),
     /// The ticket is one of another log.
     OtherTicket,
+    /// The call is another client's than the connection's, which [`Log::number`](crate::Log::number) tells. Nothing was sent.
+    OtherClient(u8),
+    /// Nobody serves there, or the service ended before it gave a number.
+    NoService,
+    /// The service gave no number in time: all that it has are taken.
+    NoFreeNumber,
 }
 
 /// Why the log refused a call, with the fields that it told.
@@ -204,6 +210,8 @@ pub enum End {
     Status(i32),
     /// A signal ended it.
     Signal(i32),
+    /// The service of a connection has ended, or has ended the visit. Connect again: nothing is done anew, and areas are to be made again.
+    ServiceEnded,
 }
 
 /// A place in the files of a log. Container 0 is the base file.
@@ -228,6 +236,9 @@ impl Error {
             Error::LineTooLong(size) => Error::LineTooLong(*size),
             Error::NotAWord(name) => Error::NotAWord(name.clone()),
             Error::OtherTicket => Error::OtherTicket,
+            Error::OtherClient(client) => Error::OtherClient(*client),
+            Error::NoService => Error::NoService,
+            Error::NoFreeNumber => Error::NoFreeNumber,
         }
     }
 
@@ -250,6 +261,9 @@ impl fmt::Display for Error {
             Error::LineTooLong(size) => write!(f, "a line of {size} bytes is too long"),
             Error::NotAWord(name) => write!(f, "a name is one word: {name:?}"),
             Error::OtherTicket => f.write_str("the ticket is one of another log"),
+            Error::OtherClient(client) => write!(f, "the connection isn't that of client {client}"),
+            Error::NoService => f.write_str("nobody serves there"),
+            Error::NoFreeNumber => f.write_str("the service has given no number in time"),
         }
     }
 }
@@ -339,6 +353,7 @@ impl fmt::Display for End {
             End::LogExists => f.write_str("a log is there"),
             End::Status(status) => write!(f, "the program ended with status {status}"),
             End::Signal(signal) => write!(f, "the program was ended by signal {signal}"),
+            End::ServiceEnded => f.write_str("the service has ended"),
         }
     }
 }

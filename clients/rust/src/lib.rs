@@ -2,25 +2,31 @@
 #![forbid(unsafe_code)]
 #![warn(missing_docs)]
 
+mod connection;
 mod error;
 mod pipe;
+mod pool;
+mod program;
 mod records;
 mod reply;
 mod stderr;
 mod values;
 
 pub use error::{End, Ending, Error, Place, Refusal};
+pub use pool::{Lent, Pool};
 pub use records::{Records, Walk};
 pub use stderr::Errors;
 pub use values::{Area, Cursor, Draft, Extent, Info, Kind, Lsn, Mode, NoLsn, Policy, PolicyKind, Record};
 
 use pipe::{Pipe, Slot};
+use program::Program;
 use reply::{answer_of, end_of, Reply};
 use std::ffi::OsStr;
 use std::fmt::{self, Write};
 use std::path::Path;
 use std::process::{Command, Stdio};
 use std::sync::Arc;
+use std::time::Duration;
 
 /// The longest line that the program takes, without its line feed.
 const LONGEST_LINE: usize = 131_072;
@@ -68,18 +74,20 @@ impl Options {
 
     /// Starts the program and waits until the log is open.
     pub fn start(self) -> Result<Log, Error> {
-        let pipe = Pipe::start(self.command, self.errors).map_err(Error::System)?;
-        let mut log = Log { pipe, line: String::new(), client: 1 };
+        let program = Program::start(self.command, self.errors).map_err(Error::System)?;
+        let mut log = Log::new(Pipe::new(program), None);
         log.meet()?;
         Ok(log)
     }
 }
 
-/// A program that serves a log. It ends when the handle is closed or let go, or when this process ends.
+/// A program that serves a log, or a connection to one. It ends when the handle is closed or let go, or when this process ends.
 pub struct Log {
     pipe: Pipe,
     line: String,
     client: u8,
+    /// Of a connection.
+    number: Option<u8>,
 }
 
 impl fmt::Debug for Log {
@@ -92,6 +100,8 @@ impl fmt::Debug for Log {
 #[must_use]
 pub struct Ticket<T> {
     slot: Arc<Slot>,
+    /// Of the flush after an append, in a line of its own.
+    flush: Option<Arc<Slot>>,
     area: Area,
     take: fn(Reply, Area) -> Option<T>,
 }
@@ -108,22 +118,72 @@ impl Log {
         Options::new(folder).start()
     }
 
-    /// Ends the input, takes the replies under way, and waits for the end of the program. What isn't flushed is gone.
+    /// A connection to the service whose door is in a folder, beside other programs, with the number that the service gives it for as long as it is
+    /// open. Waits so long for the number, without a limit for None.
+    ///
+    /// ```no_run
+    /// # use std::time::Duration;
+    /// # fn main() -> Result<(), clfs::Error> {
+    /// let mut log = clfs::Log::connect("place", Duration::from_secs(10))?;
+    /// let stream = log.open(log.number(), "orders")?;
+    /// let orders = log.area(log.number(), stream, 1000, 4)?;
+    /// log.append(orders, &clfs::Draft { flush: true, ..clfs::Draft::new(b"commit") })?;
+    /// log.close()
+    /// # }
+    /// ```
+    ///
+    /// Each call has that number; another one is [`Error::OtherClient`]. The connection begins without areas, and its end deletes those that it
+    /// made. An append with `flush` is two lines over it, answered with the second one: so connections share a sync. If the append is refused,
+    /// the log is flushed all the same. The pipes are made by the program `mkfifo`.
+    pub fn connect(place: impl AsRef<Path>, timeout: impl Into<Option<Duration>>) -> Result<Log, Error> {
+        let (connection, number) = connection::visit(place.as_ref(), timeout.into())?;
+        Ok(Log::new(Pipe::new(connection), Some(number)))
+    }
+
+    /// A connection as this client of `clfs FOLDER share`, by the pair of named pipes of that client. Waits so long for somebody who serves it.
+    /// Each pair serves once.
+    pub fn attach(
+        number: u8,
+        input: impl AsRef<Path>,
+        output: impl AsRef<Path>,
+        timeout: impl Into<Option<Duration>>,
+    ) -> Result<Log, Error> {
+        let connection = connection::pair(input.as_ref(), output.as_ref(), timeout.into())?;
+        Ok(Log::new(Pipe::new(connection), Some(number)))
+    }
+
+    fn new(pipe: Pipe, number: Option<u8>) -> Log {
+        Log { pipe, line: String::new(), client: number.unwrap_or(1), number }
+    }
+
+    /// Ends the input, takes the replies under way, and waits for the end of the program, or of the visit to a service. What isn't flushed is gone
+    /// with the program.
     pub fn close(mut self) -> Result<(), Error> {
         self.pipe.close()
     }
 
-    /// The process of the program.
+    /// The process of the program; 0 of a connection.
     pub fn id(&self) -> u32 {
         self.pipe.id()
     }
 
-    /// Kills the program, as a crash would. The next call tells so.
+    /// The number of the client: over a connection its own, and else what [`Log::set_client`] has set, at first 1.
+    pub fn number(&self) -> u8 {
+        self.client
+    }
+
+    /// Whether the handle is of no use any more, as far as calls have seen: the program or the service has ended, or said what nobody knows.
+    pub fn is_over(&self) -> bool {
+        self.pipe.is_over()
+    }
+
+    /// Kills the program, as a crash would, or ends the visit to a service, as the death of this process would. The next call tells so.
     pub fn kill(&mut self) -> Result<(), Error> {
         self.pipe.kill().map_err(Error::System)
     }
 
-    /// From now on this client asks in the calls that name neither a client nor an area, as [`Log::info`]. At first it is 1.
+    /// From now on this client asks in the calls that name neither a client nor an area, as [`Log::info`]. At first it is 1, and over a connection its
+    /// own, the only one that may ask there.
     pub fn set_client(&mut self, client: u8) {
         self.client = client;
     }
@@ -212,18 +272,23 @@ impl Log {
 
     /// As [`Log::append`], without waiting for the reply.
     pub fn send_append(&mut self, area: Area, draft: &Draft<'_>) -> Result<Ticket<Lsn>, Error> {
+        let has_flush = draft.flush && self.number.is_some();
         self.begin(area, "append");
         self.add_data(draft.data);
         self.add(format_args!(" {} {}", draft.previous, draft.undo_next));
-        for (asked, option) in
-            [(draft.reserved, " reserved"), (draft.seal, " seal"), (draft.flush, " flush"), (!draft.hold.is_empty(), " hold")]
+        let flush = draft.flush && !has_flush;
+        for (asked, option) in [(draft.reserved, " reserved"), (draft.seal, " seal"), (flush, " flush"), (!draft.hold.is_empty(), " hold")]
         {
             if asked {
                 self.line.push_str(option);
             }
         }
         self.add_numbers(draft.hold);
-        self.finish(area, placed)
+        if has_flush {
+            self.finish_with_flush(area)
+        } else {
+            self.finish(area, placed)
+        }
     }
 
     /// Brings all records to the disk. Every record below the LSN that it gives is stable.
@@ -366,11 +431,21 @@ impl Log {
 
     /// What was answered to a line, waiting for it if need be.
     pub fn answer<T>(&mut self, ticket: Ticket<T>) -> Result<T, Error> {
-        self.pipe.wait(&ticket.slot)?;
-        let line = ticket.slot.get().map_or("", String::as_str);
-        match answer_of(line, ticket.area.client) {
+        let answer = self.answer_in(&ticket.slot, ticket.area, ticket.take);
+        let Some(flush) = &ticket.flush else { return answer };
+        let flushed = self.answer_in(flush, ticket.area, flushed);
+        match (&answer, &flushed) {
+            (Err(Error::Refused(_)), Ok(_) | Err(Error::Refused(_))) => answer,
+            _ => flushed.and(answer),
+        }
+    }
+
+    fn answer_in<T>(&mut self, slot: &Slot, area: Area, take: fn(Reply, Area) -> Option<T>) -> Result<T, Error> {
+        self.pipe.wait(slot)?;
+        let line = slot.get().map_or("", String::as_str);
+        match answer_of(line, area.client) {
             Some(Err(refusal)) => Err(refusal.into()),
-            Some(Ok(reply)) => (ticket.take)(reply, ticket.area).ok_or_else(|| self.unknown(line)),
+            Some(Ok(reply)) => take(reply, area).ok_or_else(|| self.unknown(line)),
             None => Err(self.unknown(line)),
         }
     }
@@ -439,11 +514,29 @@ impl Log {
     }
 
     fn finish<T>(&mut self, area: Area, take: fn(Reply, Area) -> Option<T>) -> Result<Ticket<T>, Error> {
+        self.look_at_line(area)?;
+        let slot = self.pipe.send(self.line.as_bytes())?;
+        Ok(Ticket { slot, flush: None, area, take })
+    }
+
+    /// Sends an append and a flush. Connections that send both at about the same time share a sync, as one line that does both never does.
+    fn finish_with_flush(&mut self, area: Area) -> Result<Ticket<Lsn>, Error> {
+        self.look_at_line(area)?;
+        let slot = self.pipe.gather(self.line.as_bytes())?;
+        self.begin(area, "flush");
+        let flush = self.pipe.send(self.line.as_bytes())?;
+        Ok(Ticket { slot, flush: Some(flush), area, take: placed })
+    }
+
+    /// Whether the line may be sent.
+    fn look_at_line(&self, area: Area) -> Result<(), Error> {
         if self.line.len() > LONGEST_LINE {
             return Err(Error::LineTooLong(self.line.len()));
         }
-        let slot = self.pipe.send(self.line.as_bytes())?;
-        Ok(Ticket { slot, area, take })
+        match self.number {
+            Some(number) if number != area.client => Err(Error::OtherClient(area.client)),
+            _ => Ok(()),
+        }
     }
 }
 
@@ -514,13 +607,13 @@ pub fn format(folder: impl AsRef<Path>, sizes: &Sizes, program: impl AsRef<OsStr
     if sizes.dedicated {
         command.arg("--dedicated");
     }
-    let (program, errors) = pipe::start_watched(command.stdin(Stdio::null()), Errors::Own).map_err(Error::System)?;
+    let (program, errors) = program::start_watched(command.stdin(Stdio::null()), Errors::Own).map_err(Error::System)?;
     let ran = program.wait_with_output().map_err(Error::System)?;
     let said = String::from_utf8_lossy(&ran.stdout);
     let said = said.strip_suffix('\n').unwrap_or(&said);
     let end = match (ran.status.code(), said) {
         (Some(0), "formatted") => return Ok(()),
-        (Some(code), "") if code != 0 => pipe::end_with(code),
+        (Some(code), "") if code != 0 => program::end_with(code),
         (Some(code), _) => match end_of(said) {
             Some((end, status)) if status == code => end,
             _ => return Err(Error::UnknownReply(said.to_owned())),

@@ -1,18 +1,32 @@
-//! The program and its two pipes: lines go in, and replies come out in the same order.
+//! What goes to a program or a service, and what comes back: lines go in, and replies come out in the same order.
 //!
-//! The program stops reading when its output is full. So whoever writes has to read, too: if a write finds no room and a whole line has no reply
+//! The other side stops reading when its output is full. So whoever writes has to read, too: if a write finds no room and a whole line has no reply
 //! yet, a reply is sure to come, and is waited for; if there is no such line, nothing can fill the output, and the write itself waits.
 use crate::error::{End, Ending, Error};
 use crate::reply::end_of;
-use crate::stderr::{Errors, Watch};
 use std::collections::VecDeque;
-use std::io::{self, ErrorKind, Read, Write};
-use std::net::Shutdown;
-use std::os::fd::OwnedFd;
-use std::os::unix::net::UnixStream;
-use std::os::unix::process::{CommandExt, ExitStatusExt};
-use std::process::{Child, ChildStdout, Command, Stdio};
+use std::io::{self, ErrorKind};
 use std::sync::{Arc, OnceLock, Weak};
+
+/// What serves the lines: a program of one's own, or a service.
+pub(crate) trait Peer: Send {
+    /// The process; 0 of a service.
+    fn id(&self) -> u32;
+    /// Writes as much as there is room for.
+    fn write(&mut self, bytes: &[u8]) -> io::Result<usize>;
+    /// As that, and waits until there is room.
+    fn write_waiting(&mut self, bytes: &[u8]) -> io::Result<usize>;
+    /// Reads what there is, or waits for some.
+    fn read(&mut self, piece: &mut [u8]) -> io::Result<usize>;
+    /// Lets it answer what was sent, and end.
+    fn end_input(&mut self);
+    /// Ends it at once.
+    fn kill(&mut self) -> io::Result<()>;
+    /// How it ended, after the end of its output, with these last words and so many lines without a reply.
+    fn end(&mut self, last: Option<(End, i32)>, unanswered: usize) -> Result<End, Error>;
+    /// Lets go of it, whether it has ended or not.
+    fn release(&mut self);
+}
 
 /// The place of a reply: what was sent for it keeps it, and it is thrown away if nobody does.
 pub(crate) type Slot = OnceLock<String>;
@@ -21,10 +35,7 @@ pub(crate) type Slot = OnceLock<String>;
 const GATHERED: usize = 1 << 16;
 
 pub(crate) struct Pipe {
-    program: Child,
-    input: UnixStream,
-    output: ChildStdout,
-    errors: Watch,
+    peer: Box<dyn Peer>,
     lines: Vec<u8>,
     written: usize,
     piece: Vec<u8>,
@@ -35,20 +46,9 @@ pub(crate) struct Pipe {
 }
 
 impl Pipe {
-    /// Starts the program, in a process group of its own, so that no signal of this process's terminal reaches it.
-    pub(crate) fn start(mut command: Command, errors: Errors) -> io::Result<Pipe> {
-        let (input, other) = UnixStream::pair()?;
-        input.set_nonblocking(true)?;
-        command.stdin(Stdio::from(OwnedFd::from(other))).process_group(0);
-        let (mut program, errors) = start_watched(&mut command, errors)?;
-        // (it keeps the other end of the input)
-        drop(command);
-        let output = program.stdout.take().ok_or(ErrorKind::BrokenPipe)?;
-        Ok(Pipe {
-            program,
-            input,
-            output,
-            errors,
+    pub(crate) fn new(peer: impl Peer + 'static) -> Pipe {
+        Pipe {
+            peer: Box::new(peer),
             lines: Vec::with_capacity(2 * GATHERED),
             written: 0,
             piece: vec![0; 1 << 16],
@@ -56,28 +56,38 @@ impl Pipe {
             waiting: VecDeque::new(),
             last: None,
             failure: None,
-        })
+        }
     }
 
     pub(crate) fn id(&self) -> u32 {
-        self.program.id()
+        self.peer.id()
     }
 
     pub(crate) fn kill(&mut self) -> io::Result<()> {
-        self.program.kill()
+        self.peer.kill()
+    }
+
+    pub(crate) fn is_over(&self) -> bool {
+        self.failure.is_some()
     }
 
     pub(crate) fn under_way(&self) -> usize {
         self.waiting.len()
     }
 
-    /// Sends a line, and gives the place where its reply will be.
-    pub(crate) fn send(&mut self, line: &[u8]) -> Result<Arc<Slot>, Error> {
+    /// Puts a line to those that are gathered, and gives the place where its reply will be.
+    pub(crate) fn gather(&mut self, line: &[u8]) -> Result<Arc<Slot>, Error> {
         self.check()?;
         let slot = Arc::new(Slot::new());
         self.lines.extend_from_slice(line);
         self.lines.push(b'\n');
         self.waiting.push_back(Arc::downgrade(&slot));
+        Ok(slot)
+    }
+
+    /// As that, and writes what is gathered if it is much.
+    pub(crate) fn send(&mut self, line: &[u8]) -> Result<Arc<Slot>, Error> {
+        let slot = self.gather(line)?;
         if self.lines.len() - self.written >= GATHERED {
             self.push()?;
         }
@@ -103,7 +113,7 @@ impl Pipe {
     pub(crate) fn push(&mut self) -> Result<(), Error> {
         self.check()?;
         while self.written < self.lines.len() {
-            match self.input.write(&self.lines[self.written..]) {
+            match self.peer.write(&self.lines[self.written..]) {
                 Ok(size) => self.written += size,
                 Err(error) => match error.kind() {
                     ErrorKind::WouldBlock => self.wait_for_room()?,
@@ -120,14 +130,14 @@ impl Pipe {
     }
 
     fn wait_for_room(&mut self) -> Result<(), Error> {
-        let unwritten = self.lines[self.written..].iter().filter(|byte| **byte == b'\n').count();
+        let rest = &self.lines[self.written..];
+        let unwritten = rest.iter().filter(|byte| **byte == b'\n').count();
         if self.waiting.len() > unwritten {
             return self.read();
         }
-        let written = self.input.set_nonblocking(false).and_then(|()| self.input.write(&self.lines[self.written..]));
-        // (whatever came of the write, as after a signal: no later one may wait)
-        let again = self.input.set_nonblocking(true);
-        match again.and(written) {
+        // (no more than the line that is partly there: nobody takes the replies to later ones while this waits)
+        let line = rest.iter().position(|byte| *byte == b'\n').map_or(rest.len(), |at| at + 1);
+        match self.peer.write_waiting(&rest[..line]) {
             Ok(size) => self.written += size,
             Err(error) if error.kind() == ErrorKind::Interrupted => {}
             Err(error) if matches!(error.kind(), ErrorKind::BrokenPipe | ErrorKind::ConnectionReset) => self.written = self.lines.len(),
@@ -139,7 +149,7 @@ impl Pipe {
     /// Takes the output that is there, or waits for some. The end of it is the end of the program.
     fn read(&mut self) -> Result<(), Error> {
         let mut piece = std::mem::take(&mut self.piece);
-        let taken = match self.output.read(&mut piece) {
+        let taken = match self.peer.read(&mut piece) {
             Ok(0) => Err(self.end()),
             Ok(size) => self.take_piece(&piece[..size]),
             Err(error) if error.kind() == ErrorKind::Interrupted => Ok(()),
@@ -190,7 +200,7 @@ impl Pipe {
     /// Ends the input, takes what is still answered, and waits for the end of the program.
     pub(crate) fn close(&mut self) -> Result<(), Error> {
         self.push()?;
-        let _ = self.input.shutdown(Shutdown::Write);
+        self.peer.end_input();
         loop {
             match self.read() {
                 Ok(()) => {}
@@ -202,20 +212,11 @@ impl Pipe {
 
     /// The end of the output: how the program has ended.
     fn end(&mut self) -> Error {
-        let status = match self.program.wait() {
-            Ok(status) => status,
-            Err(error) => return self.fail(Error::System(error)),
-        };
-        let code = status.code();
-        let end = match (self.last.take(), code) {
-            (Some((end, status)), Some(code)) if status == code => end,
-            (Some((end, _)), _) => return self.fail(Error::UnknownReply(end.to_string())),
-            (None, Some(code)) => end_with(code),
-            (None, None) => End::Signal(status.signal().unwrap_or(0)),
-        };
-        let end = self.errors.end(end, code);
         let unanswered = self.waiting.len();
-        self.fail(Error::Ended(Ending { end, unanswered }))
+        match self.peer.end(self.last.take(), unanswered) {
+            Ok(end) => self.fail(Error::Ended(Ending { end, unanswered })),
+            Err(error) => self.fail(error),
+        }
     }
 
     /// From now on each call is answered so. A program that hasn't ended serves nobody any more.
@@ -225,8 +226,7 @@ impl Pipe {
         self.waiting.clear();
         self.lines.clear();
         self.written = 0;
-        let _ = self.program.kill();
-        let _ = self.program.wait();
+        self.peer.release();
         again
     }
 
@@ -243,31 +243,5 @@ impl Drop for Pipe {
         if self.failure.is_none() {
             let _ = self.close();
         }
-    }
-}
-
-/// Starts a program whose output is a pipe and whose standard error is watched.
-pub(crate) fn start_watched(command: &mut Command, errors: Errors) -> io::Result<(Child, Watch)> {
-    let mut program = command.stdout(Stdio::piped()).stderr(Stdio::piped()).spawn()?;
-    let from = program.stderr.take().ok_or(ErrorKind::BrokenPipe)?;
-    match Watch::start(from, errors) {
-        Ok(watch) => Ok((program, watch)),
-        Err(error) => {
-            // (it serves nobody)
-            let _ = program.kill();
-            let _ = program.wait();
-            Err(error)
-        }
-    }
-}
-
-/// The end with this status, if no last words told more.
-pub(crate) fn end_with(code: i32) -> End {
-    match code {
-        0 => End::Well,
-        2 => End::InputFailed,
-        3 => End::OutputFailed,
-        5 => End::NoMemory,
-        _ => End::Status(code),
     }
 }

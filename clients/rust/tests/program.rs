@@ -1,49 +1,17 @@
 //! Tests on the program that CLFS names, and on programs of the shell in its place: CLFS=PATH cargo test
+mod common;
+
 use clfs::{
     Area, Draft, End, Ending, Error, Errors, Extent, Info, Kind, Log, Lsn, Mode, Options, Place, Policy, PolicyKind, Record, Refusal, Sizes,
 };
+use common::{ending, program, refusal, Room};
 use std::fs;
 use std::io::{Read, Seek, SeekFrom, Write};
 use std::os::unix::fs::PermissionsExt;
 use std::os::unix::net::UnixStream;
-use std::path::{Path, PathBuf};
-use std::sync::atomic::{AtomicU32, Ordering};
-use std::sync::Once;
-use std::time::Duration;
-
-/// A folder that ends with the test.
-struct Room(PathBuf);
+use std::path::Path;
 
 impl Room {
-    fn new() -> Room {
-        static COUNT: AtomicU32 = AtomicU32::new(0);
-        static WATCH: Once = Once::new();
-        WATCH.call_once(|| {
-            std::thread::spawn(|| {
-                std::thread::sleep(Duration::from_secs(120));
-                eprintln!("a test hangs");
-                std::process::exit(1);
-            });
-        });
-        let name = format!("clfs-test-{}-{}", std::process::id(), COUNT.fetch_add(1, Ordering::SeqCst));
-        let path = std::env::temp_dir().join(name);
-        fs::create_dir(&path).unwrap();
-        Room(path)
-    }
-
-    fn log(&self) -> PathBuf {
-        self.0.join("log")
-    }
-
-    fn format(&self, block_sectors: u32, container_sectors: u32, containers: u32) {
-        let sizes = Sizes { block_sectors, container_sectors, containers, dedicated: false };
-        clfs::format(self.log(), &sizes, program()).unwrap();
-    }
-
-    fn start(&self) -> Log {
-        Options::with_program(self.log(), program()).start().unwrap()
-    }
-
     /// A call on a program of the shell that does what the text says.
     fn with_shell<T>(&self, text: &str, call: impl Fn(&Path) -> Result<T, Error>) -> Result<T, Error> {
         let path = self.0.join("program");
@@ -69,30 +37,8 @@ impl Room {
     }
 }
 
-impl Drop for Room {
-    fn drop(&mut self) {
-        let _ = fs::remove_dir_all(&self.0);
-    }
-}
-
-fn program() -> String {
-    std::env::var("CLFS").unwrap_or("clfs".to_owned())
-}
-
 fn lsn(text: &str) -> Lsn {
     text.parse().unwrap()
-}
-
-fn refusal<T: std::fmt::Debug>(answer: Result<T, Error>) -> Refusal {
-    answer.unwrap_err().refusal().unwrap()
-}
-
-fn ending<T>(answer: Result<T, Error>) -> Ending {
-    match answer {
-        Err(Error::Ended(ending)) => ending,
-        Err(error) => panic!("no ending: {error}"),
-        Ok(_) => panic!("it was answered"),
-    }
 }
 
 #[test]

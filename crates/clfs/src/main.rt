@@ -2,17 +2,20 @@
 //!
 //! Everything that matters is `clfs_engine::run_alone`, which is proved over any source, sink and disk. Here the two standard streams become a source and a
 //! sink, the folder a disk, and the words after it the command. A command that starts threads is run by `clfs_engine::run`, which may wait; `share`, whose
-//! clients have paths of their own, by `clfs_engine::run_share`. A word that isn't text, or no folder, is no command. `--help` and `--version` are words in the
+//! clients have paths of their own, by `clfs_engine::run_share`, and by a door by `clfs_engine::run_door`. A word that isn't text, or no folder, is no command. `--help` and `--version` are words in the
 //! folder's place, answered here. Standard error has what standard output doesn't say: which words are allowed in the place of those that are no command, or
 //! the help that they ask for, and why a run or a client ended without its work done. On a terminal it has how far a large log was read, but for `share`.
 #![tactic(auto)]
 
 mod clients;
+mod door;
 
 use crate::clients::{Clients, may_share};
+use crate::door::{SystemDoors, asks_for_door};
 use clfs_command::{answer_to, asks_to_share, help_text};
 use clfs_engine::{
-    DONE, NO_MEMORY, NOT_A_LOG, SINK_FAULT, SOURCE_FAULT, USAGE, run, run_alone, run_share,
+    DONE, NO_MEMORY, NOT_A_LOG, SINK_FAULT, SOURCE_FAULT, USAGE, run, run_alone, run_door,
+    run_share,
 };
 use clfs_files::{EndsProgress, FileUse, Folder, Progress, SyncedOutput, SystemPort, Watched};
 use clfs_lineage::Followed;
@@ -127,6 +130,21 @@ fn share_folder(
     ended.status
 }
 
+// The status of `share` by a door over the folder. The clients' own threads are started by `threads`.
+fn open_to_programs(
+    rt: &HostRuntime,
+    threads: &(impl Threads + Wait + Sync),
+    path: String,
+    words: &[String],
+) -> u8 {
+    let folder = Folder::new(*rt, path);
+    let mut sink = SystemPort::new(rt.stdout(), *rt);
+    let doors = SystemDoors { rt: *rt };
+    let ended = run_door(threads, rt.alloc(), words, &doors, &mut sink, folder);
+    tell_no_log(ended.status, &ended.disk);
+    ended.status
+}
+
 // The status of a command over standard input and output and the folder. Threads are started by `threads`, if the command needs any.
 fn run_folder(
     rt: &HostRuntime,
@@ -158,7 +176,9 @@ fn run_command(rt: &HostRuntime, threads: &(impl Threads + Wait + Sync), words: 
         return NO_MEMORY;
     };
     let command = command_words(words);
-    let status = if asks_to_share(command) {
+    let status = if asks_for_door(rt.alloc(), command) {
+        open_to_programs(rt, threads, path, command)
+    } else if asks_to_share(command) {
         share_folder(rt, threads, path, command)
     } else {
         run_folder(rt, threads, path, command)

@@ -1,3 +1,4 @@
 mod Lines
 mod NoCommands
 mod NoShares
+mod NoDoors

@@ -2,3 +2,4 @@ pub mod Line
 pub mod Forms
 pub mod Command
 pub mod Share
+pub mod Door

@@ -1,5 +1,6 @@
 // The commands as the user is told of them: one table, of which clap's line of each command is made.
 ghost use Rattle.std.specs.Prelude.{◌≡◌};
+ghost use Rattle.clfs_command.specs.Door.{door_line};
 ghost use Rattle.clfs_command.specs.Forms.{bare_line, line_of, unnamed, with_lines};
 ghost use Rattle.clfs_command.specs.Line.{command_line, share_line};
 
@@ -209,6 +210,24 @@ static SHARE: CommandForm = CommandForm {
     ],
 };
 
+static DOOR: CommandForm = CommandForm {
+    name: "share",
+    about: "Answers the lines of programs that come and go, over one log",
+    words: &[
+        WordForm {
+            name: "door",
+            kind: WordKind::Needed("PLACE"),
+            help: "Folder in which the named pipe door is, to which programs write the names of theirs",
+        },
+        WordForm {
+            name: "clients",
+            kind: WordKind::Needed("N"),
+            help: "Programs that may be there at a time, 1 to 64",
+        },
+        WRITE_BUFFERS,
+    ],
+};
+
 static COMMANDS: [CommandForm; 11] = [
     FORMAT, SERVE, RACE, TRIAL, CREW, CHECK, CROWD, DUMP, TXN, ARCHIVE, RESTORE,
 ];
@@ -225,4 +244,11 @@ pub fn share_form() -> &'static CommandForm
     ensures { unnamed (line_of result.now) ≡ share_line }
 {
     &SHARE
+}
+
+/// The command that `read_door` reads.
+pub fn door_form() -> &'static CommandForm
+    ensures { unnamed (line_of result.now) ≡ door_line }
+{
+    &DOOR
 }

@@ -23,7 +23,7 @@ fn known_form(command: &str) -> Option<&'static str> {
         "archive" => Some("no more words"),
         "restore" => Some("--up-to LSN, as 1:200:0, or not"),
         "share" => Some(
-            "IN and OUT of each client, 1 to 64 clients and no path twice, and --write-buffers W, 1 to 64, or not",
+            "IN and OUT of each client, 1 to 64 clients and no path twice, or --door PLACE and --clients N, 1 to 64; and --write-buffers W, 1 to 64, or not",
         ),
         _ => None,
     }

@@ -1,5 +1,5 @@
 // What `clfs --help` prints: the commands, and the options of each.
-use crate::commands::{CommandForm, commands, share_form};
+use crate::commands::{CommandForm, commands, door_form, share_form};
 use crate::line::{command_line, line_of, with_line};
 use clap::Command;
 use std::alloc::{AllocError, Global};
@@ -69,6 +69,15 @@ its areas are deleted then. If one client's IN or OUT fails, or a line has more 
 Status 0: all clients are done. 3: standard output can't be written. 4: disk fault, or damage. 5: out of memory before a path was opened. 6: not a log.
 17: a path can't be used, and nothing was opened. 18: no client was served.";
 
+// What `share` by a door does, and how it ends.
+const DOOR_NOTES: &str = "\
+Opens the log, then PLACE/door, which has to be a named pipe, and prints ready. A program makes the pipes PLACE/NAME.in and PLACE/NAME.out, and writes NAME,
+of at most 64 letters, digits, _, - and . but not first, and a line feed to the door. Once a client is free, its number is the first reply, as 3 client, and
+each of its lines begins with that. Once NAME.in ends the program has left: its areas are deleted, and the client is free. The line stop lets no more in,
+and it ends when all have left. What else comes to the door is said on standard error.
+Status 0: all have left. 3: standard output can't be written. 4: disk fault, or damage. 5: out of memory before a program came. 6: not a log.
+18: no program could come, and standard error says why.";
+
 // What `dump` does, and how it ends.
 const DUMP_NOTES: &str = "\
 Writes nothing to the log, unless the folder has the mark unsynced. It is printed up to its end, or up to the first wrong byte, which is then named; all
@@ -124,10 +133,15 @@ fn command_help(alloc: Global, form: &CommandForm) -> Result<String, AllocError>
 }
 
 // Adds the help of a command, after an empty line.
-fn push_command(alloc: Global, form: &CommandForm, text: &mut String) -> Result<(), AllocError> {
+fn push_command(
+    alloc: Global,
+    form: &CommandForm,
+    notes: &str,
+    text: &mut String,
+) -> Result<(), AllocError> {
     let part = command_help(alloc, form)?;
     text.push('\n')?;
-    push_part(part.as_str(), notes_of(form.name), text)
+    push_part(part.as_str(), notes, text)
 }
 
 // Adds the help of commands, in their order.
@@ -137,7 +151,7 @@ fn push_commands(
     text: &mut String,
 ) -> Result<(), AllocError> {
     for form in forms {
-        push_command(alloc, form, text)?;
+        push_command(alloc, form, notes_of(form.name), text)?;
     }
     Ok(())
 }
@@ -153,7 +167,8 @@ fn push_all(alloc: Global, text: &mut String) -> Result<(), AllocError> {
     let part = program_help(alloc)?;
     push_part(part.as_str(), NOTES, text)?;
     push_commands(alloc, commands(), text)?;
-    push_command(alloc, share_form(), text)
+    push_command(alloc, share_form(), notes_of("share"), text)?;
+    push_command(alloc, door_form(), DOOR_NOTES, text)
 }
 
 /// The help of the program: what it is, how it is called, which commands there are, and of each the options, what it does, and its

@@ -4,10 +4,12 @@
 //! fault, is what its own definitions say of a command line of this form (`specs/Line.antt`); which numbers the options may have
 //! is said here (`specs/Command.antt`). The texts of the help stand beside the options that they explain.
 //!
-//! `share` has paths of any number, and so a command line and a call of its own (`specs/Share.antt`).
+//! `share` has paths of any number, and so a command line and a call of its own (`specs/Share.antt`); by a door it has none, and another command line
+//! (`specs/Door.antt`). No words ask for both, since neither line has the other's.
 #![tactic(auto)]
 
 mod commands;
+mod door;
 mod forms;
 mod help;
 mod line;
@@ -15,6 +17,7 @@ mod share;
 mod usage;
 mod words;
 
+pub use door::{DoorWords, read_door};
 pub use forms::form_of;
 pub use help::help_text;
 pub use share::{PathPair, ShareWords, asks_to_share, read_share};

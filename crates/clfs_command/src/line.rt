@@ -1,10 +1,11 @@
 // The command line after FOLDER, as clap takes it.
 ghost use Rattle.std.specs.Prelude.{◌≡◌, IfOk, false};
 ghost use Rattle.clap.specs.Words.{app_of, rule_of, with_subcommand};
+ghost use Rattle.clfs_command.specs.Door.{door_line};
 ghost use Rattle.clfs_command.specs.Line.{option, needed, with_default, flag, word, words, share_line, command_named, command_line};
 ghost use Rattle.clfs_command.specs.Forms.{rule_of_form, line_of, bare_line};
 
-use crate::commands::{CommandForm, WordForm, WordKind, commands, share_form};
+use crate::commands::{CommandForm, WordForm, WordKind, commands, door_form, share_form};
 use clap::{Arg, ArgAction, Command};
 use std::alloc::{AllocError, Global};
 
@@ -144,4 +145,11 @@ pub fn share_line<'a>(alloc: Global) -> Result<Command<'a>, AllocError>
     ensures { IfOk result (λ r. app_of r ≡ share_line) }
 {
     Ok(line_of(alloc, share_form())?.no_binary_name(true))
+}
+
+/// The line of `share` by a door. It takes the words after its name.
+pub fn door_line<'a>(alloc: Global) -> Result<Command<'a>, AllocError>
+    ensures { IfOk result (λ r. app_of r ≡ door_line) }
+{
+    Ok(line_of(alloc, door_form())?.no_binary_name(true))
 }

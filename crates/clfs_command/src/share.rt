@@ -108,8 +108,8 @@ fn clients_of(alloc: Global, paths: &[&str]) -> Result<Vec<PathPair>, WordsRefus
     Ok(clients)
 }
 
-// The write buffers that are asked for, if a log can have so many.
-fn buffers_of(write_buffers: Option<u32>) -> Option<u32>
+/// The write buffers that are asked for, if a log can have so many.
+pub(crate) fn buffers_of(write_buffers: Option<u32>) -> Option<u32>
     ensures buffers { result ≡ buffers_of write_buffers }
     ensures range { IfSome result (λ buffers. (1 ≤ buffers) × (buffers ≤ most_write_buffers)) }
 {

@@ -6,3 +6,4 @@ pub mod Shares
 pub mod OpenersMade
 pub mod Unserved
 pub mod RanOut
+pub mod DoorEnds

@@ -4,3 +4,4 @@ pub mod Crowd
 pub mod Commits
 pub mod Share
 pub mod Run
+pub mod Door

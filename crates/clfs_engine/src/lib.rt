@@ -6,12 +6,13 @@
 //! they are on the disk.
 //!
 //! `share_log` opens the log, and lets clients share it (`clfs_share`) until all have ended, each over a source and a sink of its own;
-//! `run_share` is the same for words after FOLDER.
+//! `run_share` is the same for words after FOLDER. `share_door` opens the log, and lets programs come and go by a door, and `run_door` is that for words.
 #![tactic(auto)]
 
 mod crewing;
 mod crowding;
 mod desk;
+mod door;
 mod members;
 mod program;
 mod sharing;
@@ -26,5 +27,6 @@ pub use clfs_operations::{
 };
 pub use crewing::crew;
 pub use crowding::crowd;
+pub use door::{DoorOutcome, DoorRefusal, Doors, run_door, share_door};
 pub use program::{NeedsThreads, ThreadedCommand, run, run_alone};
 pub use sharing::{NONE_SERVED, PathOpeners, ShareOutcome, run_share, share_log};

@@ -8,12 +8,15 @@
 //!
 //! A client of a shared log has paths of its own, `ClientPaths`, which are opened as a source and a sink, after `SeenFiles` looked at those of all clients.
 //!
+//! Programs that come and go do so by a `Door`, a named pipe in a folder, and each client's number is given to them by an `Entrance`.
+//!
 //! Who waits for a large log sees on a terminal how far it was read: `Watched` passes each call of a folder on as it is and counts what is read,
 //! and `Progress` is the line that tells it.
 #![tactic(auto)]
 
 mod access;
 mod directory;
+mod door;
 mod fault;
 mod file;
 mod folder;
@@ -27,6 +30,7 @@ mod synced;
 mod unsynced;
 mod watched;
 
+pub use door::{Door, DoorFailed, Entrance};
 pub use folder::Folder;
 pub use location::FileUse;
 pub use paths::{ClientPaths, ClientPort};
