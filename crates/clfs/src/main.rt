@@ -2,9 +2,10 @@
 //!
 //! Everything that matters is `clfs_engine::run_alone`, which is proved over any source, sink and disk. Here the two standard streams become a source and a
 //! sink, the folder a disk, and the words after it the command. A command that starts threads is run by `clfs_engine::run`, which may wait; `share`, whose
-//! clients have paths of their own, by `clfs_engine::run_share`, and by a door by `clfs_engine::run_door`. A word that isn't text, or no folder, is no command. `--help` and `--version` are words in the
-//! folder's place, answered here. Standard error has what standard output doesn't say: which words are allowed in the place of those that are no command, or
-//! the help that they ask for, and why a run or a client ended without its work done. On a terminal it has how far a large log was read, but for `share`.
+//! clients have paths of their own, by `clfs_engine::run_share`, and by a door by `clfs_engine::run_door`. A word that isn't text, or no folder, is no command.
+//! `--help` and `--version` are words in the folder's place, answered here. Standard error has what standard output doesn't say: which words are allowed in the
+//! place of those that are no command, or the help that they ask for, and why a run or a client ended without its work done. On a terminal it has how far a
+//! large log was read, but for `share`.
 #![tactic(auto)]
 
 mod clients;
