@@ -1,6 +1,7 @@
 -- What sharing a log by a door comes to, by how it was loaded and by what its visits' journal leads to.
 use Rattle.std.proofs.Common.{◌≡◌, ℕ, ◌⊎◌, ◌≤◌, Bool, true, false, refl, sym, ap, subst, ◌∙◌, List, [], inl, inr, arith}
 use Rattle.std.specs.Prelude.{Option, if◌then◌else◌}
+use Rattle.std.proofs.lemmas.Bool.{true≢false}
 use Rattle.std.specs.Io.KnownBytes.{Appends}
 use Rattle.std.proofs.KnownBytes.{Appends-nil}
 use Rattle.clfs_ports.specs.Cause as ports
@@ -14,11 +15,12 @@ use Rattle.clfs_operations.specs.Unopened.{EndsUnopened}
 use Rattle.clfs_share.specs.Visited.{could_any_come}
 use Rattle.clfs_share.specs.declared.visitors.ComingEnd.{ComingEnd}
 use Rattle.clfs_engine.specs.Door.{Anybody, EndsDoor, Visiting, WasOpen, ready_text}
-use Rattle.clfs_engine.proofs.Shares.{is_shared, none_of, not_done, not_ended}
+use Rattle.clfs_engine.proofs.Shares.{is_shared, none_of, not_done, not_ended, unbroken}
 
 module _ (Shut : Type 0) (Visits : Visiting) (buffers : ℕ) (old new : DiskState) (s t : State) (kept : IsKeptOn t new)
     (journal : List Entry) (from : IsTakenFrom buffers old new s t journal) (visits : Visits old.nature.tells_contents s journal) where
   was_open : (broken : Bool) → t.broken ≡ broken → WasOpen Visits buffers broken old new
+  unfolding is_shared
   was_open broken is = record {
     shared = is_shared Anybody buffers old new s t kept journal from tt broken is;
     visits = subst (λ (first : State). Visits old.nature.tells_contents first journal) (sym from.first) visits;
@@ -26,8 +28,8 @@ module _ (Shut : Type 0) (Visits : Visiting) (buffers : ℕ) (old new : DiskStat
 
   -- the status says whether the log is broken, and whether programs could come
   pub visits_end : (status : ℕ) (ends : List ComingEnd) (written written' : Option (List ℕ)) (sink sink' : ℕ) → Appends written written' ready_text → sink ≤ sink'
-      → status ≡ (if t.broken then 4 else (if could_any_come ends then 0 else 18)) → EndsDoor Shut Visits status buffers old new ends written written' sink sink'
-  visits_end status ends written written' sink sink' ready later is = by_end t.broken (could_any_come ends) refl refl
+      → (could_any_come ends ≡ false → journal ≡ []) → status ≡ (if t.broken then 4 else (if could_any_come ends then 0 else 18)) → EndsDoor Shut Visits status buffers old new ends written written' sink sink'
+  visits_end status ends written written' sink sink' ready later quiet is = by_end t.broken (could_any_come ends) refl refl
     where
       own : (broken came : Bool) → t.broken ≡ broken → could_any_come ends ≡ came → status ≡ (if broken then 4 else (if came then 0 else 18))
       own broken came at counted = is ∙ ap (λ (b : Bool). if b then 4 else (if could_any_come ends then 0 else 18)) at
@@ -40,6 +42,7 @@ module _ (Shut : Type 0) (Visits : Visiting) (buffers : ℕ) (old new : DiskStat
         done_ready = λ e. ready;
         done_came = λ e. counted;
         none_came = λ e. absurd (omega (arith, zero, e));
+        none_came_alone = λ none. absurd (true≢false (sym counted ∙ none));
         sink_fault = λ e. absurd (omega (arith, zero, e));
         sink_fault_front = λ e. absurd (omega (arith, zero, e));
         disk_fault = λ e. absurd (omega (arith, zero, e));
@@ -55,6 +58,7 @@ module _ (Shut : Type 0) (Visits : Visiting) (buffers : ℕ) (old new : DiskStat
         done_ready = λ e. absurd (omega (arith, eighteen, e));
         done_came = λ e. absurd (omega (arith, eighteen, e));
         none_came = λ e. inr (was_open false at, (counted, ready));
+        none_came_alone = λ none. inr eighteen;
         sink_fault = λ e. absurd (omega (arith, eighteen, e));
         sink_fault_front = λ e. absurd (omega (arith, eighteen, e));
         disk_fault = λ e. absurd (omega (arith, eighteen, e));
@@ -70,6 +74,7 @@ module _ (Shut : Type 0) (Visits : Visiting) (buffers : ℕ) (old new : DiskStat
         done_ready = λ e. absurd (omega (arith, four, e));
         done_came = λ e. absurd (omega (arith, four, e));
         none_came = λ e. absurd (omega (arith, four, e));
+        none_came_alone = λ none. absurd (true≢false (sym at ∙ unbroken Anybody buffers old new s t kept journal from tt (quiet none)));
         sink_fault = λ e. absurd (omega (arith, four, e));
         sink_fault_front = λ e. absurd (omega (arith, four, e));
         disk_fault = λ e. inl (was_open true at, ready);
@@ -90,6 +95,7 @@ module _ (Shut : Type 0) (Visits : Visiting) (status buffers : ℕ) (old new : D
     done_ready = λ e. absurd (not_done status unopened.statuses e);
     done_came = λ e. absurd (not_done status unopened.statuses e);
     none_came = λ e. absurd (not_ended status unopened.statuses e);
+    none_came_alone = λ none. inl refl;
     sink_fault = unopened.sink_fault;
     sink_fault_front = λ e. inl (unopened.sink_fault_front e);
     disk_fault = λ e. let told = unopened.disk_fault e in inr (told.0, (refl, told.1));
@@ -109,6 +115,7 @@ module _ (Shut : Type 0) (Visits : Visiting) (status buffers : ℕ) (old new : D
     done_ready = λ e. absurd (omega (arith, is, e));
     done_came = λ e. absurd (omega (arith, is, e));
     none_came = λ e. inl (shut, (leaves, (refl, Appends-nil written)));
+    none_came_alone = λ none. inl refl;
     sink_fault = λ e. absurd (omega (arith, is, e));
     sink_fault_front = λ e. absurd (omega (arith, is, e));
     disk_fault = λ e. absurd (omega (arith, is, e));
@@ -124,6 +131,7 @@ module _ (Shut : Type 0) (Visits : Visiting) (status buffers : ℕ) (old new : D
     done_ready = λ e. absurd (omega (arith, is, e));
     done_came = λ e. absurd (omega (arith, is, e));
     none_came = λ e. absurd (omega (arith, is, e));
+    none_came_alone = λ none. inl refl;
     sink_fault = λ e. absurd (omega (arith, is, e));
     sink_fault_front = λ e. absurd (omega (arith, is, e));
     disk_fault = λ e. absurd (omega (arith, is, e));
@@ -143,6 +151,7 @@ module _ (Shut : Type 0) (Visits : Visiting) (status buffers : ℕ) (old new : D
     done_ready = λ e. absurd (omega (arith, is, e));
     done_came = λ e. absurd (omega (arith, is, e));
     none_came = λ e. absurd (omega (arith, is, e));
+    none_came_alone = λ none. inl refl;
     sink_fault = λ e. rises;
     sink_fault_front = λ e. inr (leaves, front);
     disk_fault = λ e. absurd (omega (arith, is, e));
@@ -162,6 +171,7 @@ module _ (Shut : Type 0) (Visits : Visiting) (status buffers : ℕ) (old new : D
     done_ready = λ e. absurd (omega (arith, is, e));
     done_came = λ e. absurd (omega (arith, is, e));
     none_came = λ e. absurd (omega (arith, is, e));
+    none_came_alone = λ none. inl refl;
     sink_fault = λ e. absurd (omega (arith, is, e));
     sink_fault_front = λ e. absurd (omega (arith, is, e));
     disk_fault = λ e. absurd (omega (arith, is, e));

@@ -5,5 +5,6 @@ pub mod Gathered
 pub mod Shares
 pub mod OpenersMade
 pub mod Unserved
+pub mod Unvisited
 pub mod RanOut
 pub mod DoorEnds

@@ -24,7 +24,7 @@ none_of status k is no_three no_five no_six (inr (inr e)) = no_six (sym is ∙ e
 
 module _ (Serves : Serving) (buffers : ℕ) (old new : DiskState) (s t : State) (kept : IsKeptOn t new)
     (journal : List Entry) (from : IsTakenFrom buffers old new s t journal) (serves : Serves journal t) where
-  pub is_shared : (broken : Bool) → t.broken ≡ broken → IsShared Serves buffers broken old new
+  unfoldable pub is_shared : (broken : Bool) → t.broken ≡ broken → IsShared Serves buffers broken old new
   is_shared broken is = record {
     journal = journal;
     taken = from.taken;
@@ -36,7 +36,7 @@ module _ (Serves : Serving) (buffers : ℕ) (old new : DiskState) (s t : State) 
   }
 
   -- a log that took no call isn't broken
-  unbroken : journal ≡ [] → t.broken ≡ false
+  pub unbroken : journal ≡ [] → t.broken ≡ false
   unbroken none = ap (λ (last : State). last.broken) (sym from.last)
       ∙ ap (λ (last : State). last.broken) (same_state old.nature.tells_contents journal from.taken.first from.taken.last none from.taken.legal)
       ∙ from.taken.begins

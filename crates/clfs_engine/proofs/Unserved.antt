@@ -13,17 +13,17 @@ use Rattle.clfs_share.specs.declared.openers.Openers as Openers
 use Rattle.clfs_share.specs.Ended.{ends_of, is_served, is_any_served}
 use Rattle.clfs_share.specs.Taken.{AreTaken, IsOfClients, IsTakenAs}
 
-equal_by : (a b : ℕ) → (a == b) ≡ true → a ≡ b
+pub equal_by : (a b : ℕ) → (a == b) ≡ true → a ≡ b
 equal_by a b is = grind (arith, nat_tests)
 
 own_number : (n : ℕ) → (n == n) ≡ true
 own_number n = grind (arith, nat_tests)
 
-unequal_by : (a b : ℕ) → (a == b) ≡ false → a ≤ b → a + 1 ≤ b
+pub unequal_by : (a b : ℕ) → (a == b) ≡ false → a ≤ b → a + 1 ≤ b
 unequal_by a b is below = grind (arith, nat_tests)
 
 -- a journal of which no client has an entry has none
-no_entry : (journal : List Entry) → ((client : ℕ) → mine journal client ≡ []) → journal ≡ []
+pub no_entry : (journal : List Entry) → ((client : ℕ) → mine journal client ≡ []) → journal ≡ []
 no_entry [] none = refl
 no_entry (entry ∷ entries) none =
     let own = ap (λ (b : Bool). if b then entry ∷ mine entries entry.client else mine entries entry.client) (own_number entry.client) in

@@ -1,7 +1,6 @@
 -- How a log is shared among programs that come and go by a door.
 use Rattle.std.specs.Prelude.{◌≡◌, ◌⊎◌, ℕ, ◌≤◌, Bool, true, false, List, [], length, codes, Option}
 use Rattle.std.specs.Io.KnownBytes.{Appends}
-use Rattle.clap.specs.Walk.{Text}
 use Rattle.clfs_ports.specs.Cause as ports
 use Rattle.clfs_disk.specs.State.{DiskState}
 use Rattle.clfs_model.specs.declared.journal.Entry.{Entry}
@@ -63,6 +62,8 @@ pub record EndsDoor (Shut : Type 0) (Visits : Visiting) (status buffers : ℕ) (
   -- no program could come, and the log isn't broken: the door can't be opened, and nothing was written, or it could, and that programs may come was written
   pub none_came : status ≡ 18 → (Shut × (LeavesFiles old new × ((ends ≡ []) × Appends written written_after [])))
       ⊎ (WasOpen Visits buffers false old new × ((could_any_come ends ≡ false) × Appends written written_after ready_text))
+  -- this is the status wherever the log was shared and no program could come
+  pub none_came_alone : could_any_come ends ≡ false → (ends ≡ []) ⊎ (status ≡ 18)
   -- the sink failed in this call: a front of the line was written that says why the log wasn't opened, or of the one that says that programs may come; no
   -- file has changed then
   pub sink_fault : status ≡ 3 → ports.Rises sink sink_after
