@@ -704,7 +704,7 @@ class Pairs(Room):
                 self.assertEqual(getattr(answer, "unanswered", 1), 1)
 
     def test_another_first_reply(self):
-        for says in (b"a door of another kind\n", b"0 refused 28 BadLine 0\n7 lsn 1:0:0\n", b"x" * 300, b"\xff\n"):
+        for says in (b"a door of another kind\n", b"1 refused 28 BadLine 0\n", b"x" * 300, b"\xff\n"):
 
             def call(lines, replies):
                 with self.assertRaises(clfs.UnknownReply):
@@ -715,7 +715,7 @@ class Pairs(Room):
 
     def test_another_greeting(self):
         """A door that somebody else reads."""
-        for says in (b"client\n", b"0 client\n", b"65 client\n", b"01 client\n", b"1 client \n", b"1 client\n1 ok\n"):
+        for says in (b"client\n", b"0 client\n", b"65 client\n", b"01 client\n", b"1 client \n", b"1 ok\n"):
             self.place.mkdir(exist_ok=True)
             with contextlib.suppress(FileExistsError):
                 os.mkfifo(self.door)

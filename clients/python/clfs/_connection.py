@@ -116,12 +116,12 @@ class Connection:
             ready = self._poll({_End.REPLIES: select.POLLIN, read_by_service: 0}, deadline)
             if not ready:
                 raise late
-            piece = os.read(self._end(_End.REPLIES), _LONGEST_SAID) if ready.get(_End.REPLIES, 0) & select.POLLIN else b""
-            if not piece:
+            byte = os.read(self._end(_End.REPLIES), 1) if ready.get(_End.REPLIES, 0) & select.POLLIN else b""
+            if not byte:
                 raise NoService("the service has ended")
-            said += piece
+            said += byte
         text = said.decode("ascii", "backslashreplace")
-        if text.find("\n") != len(text) - 1:
+        if not text.endswith("\n"):
             raise UnknownReply(text)
         return text[:-1]
 
@@ -141,7 +141,10 @@ class Connection:
             ends[self._end(end)] = end
             poll.register(self._end(end), events)
         seconds = seconds_to(deadline)
-        return {ends[descriptor]: events for descriptor, events in poll.poll(None if seconds is None else seconds * 1000)}
+        ready = poll.poll(None if seconds is None else seconds * 1000)
+        # (a signal's handler may have forked meanwhile)
+        self._check()
+        return {ends[descriptor]: events for descriptor, events in ready}
 
     # Lines and replies.
 
