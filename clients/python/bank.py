@@ -161,10 +161,13 @@ class Trial:
         assert balances in [self.known] + [transfer.applied(self.known) for transfer in unsure], "a transfer is lost"
         self.known, self.transfers = list(balances), []
 
+    def transfer(self):
+        return Transfer()
+
     def transfer_money(self, bank):
         """Three transfers at a time, which take turns at random; five times."""
         for _ in range(5):
-            self.transfers = [Transfer() for _ in range(3)]
+            self.transfers = [self.transfer() for _ in range(3)]
             for transfer in random.sample(self.transfers * 3, 9):
                 next(transfer.steps)(bank)
                 if transfer.committed and transfer.last:
