@@ -14,7 +14,7 @@ pub const LONGEST: u32 = 3000;
 /// A copy has at most so many parts of seven sectors. The log should be some times larger, and than what is due.
 pub const PARTS: u32 = 64;
 /// A checkpoint is due once so many sectors were written.
-const DUE: u64 = 1000;
+const DUE: u64 = 500;
 /// How long a connection waits for its number.
 pub const PATIENCE: Duration = Duration::from_secs(10);
 
