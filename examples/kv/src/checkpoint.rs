@@ -15,8 +15,6 @@ pub const LONGEST: u32 = 3000;
 pub const PARTS: u32 = 64;
 /// A checkpoint is due once so many sectors were written.
 const DUE: u64 = 500;
-/// How long a connection waits for its number.
-pub const PATIENCE: Duration = Duration::from_secs(10);
 
 /// A connection of its own for checkpoints, which holds the sectors of the next one.
 pub struct Checkpoints {
@@ -26,7 +24,7 @@ pub struct Checkpoints {
 
 impl Checkpoints {
     pub fn connect(place: &Path) -> Result<Checkpoints, Error> {
-        let mut log = Log::connect(place, PATIENCE)?;
+        let mut log = Log::connect(place, Duration::from_secs(10))?;
         let stream = log.open(log.number(), STREAM)?;
         let area = log.area(log.number(), stream, LONGEST, 2)?;
         let mut checkpoints = Checkpoints { log, area };
@@ -57,10 +55,7 @@ impl Checkpoints {
 
     /// Writes the copy that was taken at the mark, and moves the base there.
     pub fn write(&mut self, run: Lsn, mark: Lsn, parts: &[String]) -> Result<(), Error> {
-        let mut last = Lsn::NULL;
-        for part in parts {
-            last = self.append(part, last)?;
-        }
+        let last = parts.iter().try_fold(Lsn::NULL, |last, part| self.append(part, last))?;
         self.log.restart(self.area, format!("{run} {mark} {last}").as_bytes(), mark, true)?;
         self.hold()
     }

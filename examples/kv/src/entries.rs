@@ -23,7 +23,7 @@ impl Entries {
     pub fn set(&mut self, lsn: Lsn, key: &str, value: Option<&str>) {
         let (newest, old) = self.by_key.entry(key.to_owned()).or_default();
         if *newest <= lsn {
-            let size = |value: &str| line(key, value).len();
+            let size = |value: &str| key.len() + value.len() + 2;
             self.bytes = self.bytes + value.map_or(0, size) - old.as_deref().map_or(0, size);
             (*newest, *old) = (lsn, value.map(str::to_owned));
         }
@@ -51,7 +51,7 @@ impl Entries {
         self.by_key.retain(|_, (_, value)| value.is_some());
         let mut parts = vec![String::new()];
         for (key, (_, value)) in &self.by_key {
-            let line = line(key, value.as_deref().unwrap_or_default());
+            let line = format!("{key} {}\n", value.as_deref().unwrap_or_default());
             match parts.last_mut() {
                 Some(part) if part.len() + line.len() <= longest => part.push_str(&line),
                 _ => parts.push(line),
@@ -59,8 +59,4 @@ impl Entries {
         }
         parts
     }
-}
-
-fn line(key: &str, value: &str) -> String {
-    format!("{key} {value}\n")
 }

@@ -7,7 +7,7 @@
 //! has a first record to which its changes link, and after a checkpoint only changes of its run count. Only one store may be there at a time.
 //!
 //! To archive, send `archive on` once; then room is free again only after `clfs FOLDER archive`, with the service stopped.
-use crate::checkpoint::{Checkpoints, LONGEST, PARTS, PATIENCE, STREAM};
+use crate::checkpoint::{Checkpoints, LONGEST, PARTS, STREAM};
 use crate::entries::Entries;
 use clfs::{Area, Draft, Error, Lsn, Pool, Refusal};
 use std::path::{Path, PathBuf};
@@ -39,7 +39,7 @@ impl Store {
         });
         let entries = Mutex::new(checkpoints.recover()?);
         let run = checkpoints.append("run", Lsn::NULL)?;
-        let store = Store { place: place.to_owned(), pool: pool.timeout(PATIENCE), run, entries, changing: RwLock::new(()) };
+        let store = Store { place: place.to_owned(), pool, run, entries, changing: RwLock::new(()) };
         store.checkpoint(&mut checkpoints)?;
         Ok(store)
     }
