@@ -1,6 +1,6 @@
-"""A durable key-value store, by a thread for each program at its socket: python3 kv.py PLACE SOCKET (with PYTHONPATH=clients/python)
+"""A durable key-value store, by a thread for each program at its socket: python3 kv.py PLACE SOCKET SECTORS (with PYTHONPATH=clients/python)
 
-In PLACE is the door of `clfs FOLDER share --door PLACE --clients 9`. Lines are `put KEY VALUE`, `delete KEY` and `get KEY`, replies `ok`, once the
+In PLACE is the door of `clfs FOLDER share --door PLACE --clients 9`; after SECTORS, as 500, a checkpoint is due. Lines are `put KEY VALUE`, `delete KEY` and `get KEY`, replies `ok`, once the
 change is on the disk, `value VALUE`, `none`, and `error WHY`; a change that got an error may be there after the next start.
 
 Each change is a record that is on the disk before its entry changes in memory, so nobody reads what a crash could take. Each thread appends and flushes over
@@ -26,10 +26,8 @@ import clfs
 STREAM = "kv"
 # No record is longer, in bytes.
 LONGEST = 3000
-# A copy has at most so many parts of seven sectors. The log should be some times larger, and than what is due.
+# A copy has at most so many parts of seven sectors. The log should be some times larger, and than what is written until a checkpoint is due.
 PARTS = 64
-# A checkpoint is due once so many sectors were written.
-DUE = 500
 # The connections of all threads; one more makes checkpoints.
 CONNECTIONS = 8
 # No more is put once a copy has so many bytes. Two parts that follow each other have more than LONGEST together.
@@ -99,11 +97,11 @@ class Checkpoints:
             held = self.area.reserve(LONGEST)
         self.area.release(held - most)
 
-    def is_due(self):
-        """Whether enough was written since the last one."""
+    def is_due(self, sectors):
+        """Whether so many sectors were written since the last one."""
         info = self.log.info(self.area.stream)
         last, base = (lsn.container * info.size + lsn.offset // 512 for lsn in (info.last, info.base))
-        return last > base + DUE
+        return last > base + sectors
 
     def append(self, data, previous=clfs.NULL):
         """Appends a record of a checkpoint, or the first one of a run."""
@@ -192,14 +190,14 @@ class Store:
             parts = self.entries.copy()
         self.checkpoints.write(self.run, mark, parts)
 
-    def keep_checkpoints(self):
-        """Makes checkpoints that are due, over a new connection if one ended, for as long as the service does calls."""
+    def keep_checkpoints(self, sectors):
+        """Makes a checkpoint after so many sectors, over a new connection if one ended, for as long as the service does calls."""
         while True:
             time.sleep(0.02)
             try:
                 if self.checkpoints.log.is_over:
                     self.checkpoints = Checkpoints(self.place)
-                if self.checkpoints.is_due():
+                if self.checkpoints.is_due(sectors):
                     self.checkpoint()
             except FINAL as error:
                 print(f"kv: {error}", file=sys.stderr)
@@ -234,9 +232,9 @@ class Server(socketserver.ThreadingUnixStreamServer):
     daemon_threads, request_queue_size = True, 64
 
 
-def main(place, path):
+def main(place, path, sectors):
     store = Store(place)
-    threading.Thread(target=store.keep_checkpoints, daemon=True).start()
+    threading.Thread(target=store.keep_checkpoints, args=[int(sectors)], daemon=True).start()
     with contextlib.suppress(FileNotFoundError):
         os.unlink(path)
     with Server(path, Program) as server:
@@ -246,6 +244,6 @@ def main(place, path):
 
 
 if __name__ == "__main__":
-    if len(sys.argv) != 3:
+    if len(sys.argv) != 4:
         sys.exit(__doc__)
     main(*sys.argv[1:])

@@ -11,10 +11,8 @@ use std::time::Duration;
 pub const STREAM: &str = "kv";
 /// No record is longer, in bytes.
 pub const LONGEST: u32 = 3000;
-/// A copy has at most so many parts of seven sectors. The log should be some times larger, and than what is due.
+/// A copy has at most so many parts of seven sectors. The log should be some times larger, and than what is written until a checkpoint is due.
 pub const PARTS: u32 = 64;
-/// A checkpoint is due once so many sectors were written.
-const DUE: u64 = 500;
 
 /// A connection of its own for checkpoints, which holds the sectors of the next one.
 pub struct Checkpoints {
@@ -41,11 +39,11 @@ impl Checkpoints {
         self.log.release(self.area, held - most).map(|_| ())
     }
 
-    /// Whether enough was written since the last one.
-    pub fn is_due(&mut self) -> Result<bool, Error> {
+    /// Whether so many sectors were written since the last one.
+    pub fn is_due(&mut self, sectors: u64) -> Result<bool, Error> {
         let info = self.log.info(self.area.stream)?;
         let sector = |lsn: Lsn| u64::from(lsn.container()) * u64::from(info.container_sectors) + u64::from(lsn.offset()) / 512;
-        Ok(sector(info.last) > sector(info.base) + DUE)
+        Ok(sector(info.last) > sector(info.base) + sectors)
     }
 
     /// Appends a record of a checkpoint, or the first one of a run.

@@ -1,6 +1,6 @@
-//! A durable key-value store, by a thread for each program at its socket: kv PLACE SOCKET
+//! A durable key-value store, by a thread for each program at its socket: kv PLACE SOCKET SECTORS
 //!
-//! In PLACE is the door of `clfs FOLDER share --door PLACE --clients 9`. Lines are `put KEY VALUE`, `delete KEY` and `get KEY`, replies `ok`, once
+//! In PLACE is the door of `clfs FOLDER share --door PLACE --clients 9`; after SECTORS, as 500, a checkpoint is due. Lines are `put KEY VALUE`, `delete KEY` and `get KEY`, replies `ok`, once
 //! the change is on the disk, `value VALUE`, `none`, and `error WHY`; a change that got an error may be there after the next start.
 mod checkpoint;
 mod entries;
@@ -8,7 +8,6 @@ mod store;
 
 use std::io::{self, BufRead, BufReader, Write};
 use std::os::unix::net::{UnixListener, UnixStream};
-use std::path::PathBuf;
 use std::sync::Arc;
 use std::{env, fs, process, thread};
 use store::Store;
@@ -34,12 +33,12 @@ fn serve(store: &Store, program: UnixStream) -> io::Result<()> {
 }
 
 fn main() -> Result<(), Box<dyn std::error::Error>> {
-    let paths: Vec<PathBuf> = env::args_os().skip(1).map(PathBuf::from).collect();
-    let [place, socket] = &paths[..] else { return Err("usage: kv PLACE SOCKET".into()) };
-    let store = Arc::new(Store::open(place)?);
+    let words: Vec<String> = env::args().skip(1).collect();
+    let [place, socket, sectors] = &words[..] else { return Err("usage: kv PLACE SOCKET SECTORS".into()) };
+    let (store, sectors) = (Arc::new(Store::open(place.as_ref())?), sectors.parse()?);
     let checkpoints = Arc::clone(&store);
     thread::spawn(move || {
-        eprintln!("kv: {}", checkpoints.keep_checkpoints());
+        eprintln!("kv: {}", checkpoints.keep_checkpoints(sectors));
         process::exit(1);
     });
     let _ = fs::remove_file(socket);

@@ -64,12 +64,12 @@ impl Store {
         Ok(true)
     }
 
-    /// Makes checkpoints that are due, over a new connection if one ended, for as long as the service does calls.
-    pub fn keep_checkpoints(&self) -> Error {
+    /// Makes a checkpoint after so many sectors, over a new connection if one ended, for as long as the service does calls.
+    pub fn keep_checkpoints(&self, sectors: u64) -> Error {
         let mut connected = None;
         loop {
             thread::sleep(Duration::from_millis(20));
-            connected = match self.checkpoint_if_due(connected) {
+            connected = match self.checkpoint_if_due(connected, sectors) {
                 Ok(checkpoints) => Some(checkpoints),
                 Err(error @ Error::Refused(Refusal::DiskFault | Refusal::Damaged { .. } | Refusal::Broken)) => return error,
                 Err(_) => None,
@@ -77,9 +77,9 @@ impl Store {
         }
     }
 
-    fn checkpoint_if_due(&self, connected: Option<Checkpoints>) -> Result<Checkpoints, Error> {
+    fn checkpoint_if_due(&self, connected: Option<Checkpoints>, sectors: u64) -> Result<Checkpoints, Error> {
         let mut checkpoints = connected.map_or_else(|| Checkpoints::connect(&self.place), Ok)?;
-        if checkpoints.is_due()? {
+        if checkpoints.is_due(sectors)? {
             self.checkpoint(&mut checkpoints)?;
         }
         Ok(checkpoints)
