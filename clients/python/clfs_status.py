@@ -391,7 +391,7 @@ def prometheus_of(status: Status) -> str:
             lines.append(f"clfs_{name}{{log={_quoted(status.log)}{more}}} {value}")
 
     free = status.free
-    gauge("damaged", "Whether the log has a wrong byte.", [(None, int(status.damage is not None))])
+    gauge("damaged", "Whether the log has a wrong byte.", [(None, None if status.online else int(status.damage is not None))])
     gauge("unsynced", "Whether a sync had failed before this look.", [(None, None if status.unsynced is None else int(status.unsynced))])
     gauge("containers", "Containers of the log.", [(None, status.containers)])
     gauge("free_containers", "Containers that aren't in use.", [(None, free and free.containers)])

@@ -8,6 +8,7 @@ from __future__ import annotations
 
 import os
 import select
+import shutil
 import sys
 import termios
 import time
@@ -122,7 +123,7 @@ def _follow_lines(log: Asked, every: float) -> None:
 
 def _screen(now: Moment, since: Optional[Rates], every: float) -> str:
     """The screen, cut to the terminal's size."""
-    columns, rows = os.get_terminal_size(sys.stdout.fileno())
+    columns, rows = shutil.get_terminal_size()
     clock = time.strftime("%H:%M:%S", time.localtime(now.time))
     head = [f"{clock}, every {every:g} s; q ends.", "" if since is None else f"{since}.", ""]
     lines = [*head, *text_of(now.status).splitlines()][: rows - 1]
