@@ -127,7 +127,7 @@ def _screen(now: Moment, since: Optional[Rates], every: float) -> str:
     clock = time.strftime("%H:%M:%S", time.localtime(now.time))
     head = [f"{clock}, every {every:g} s; q ends.", "" if since is None else f"{since}.", ""]
     lines = [*head, *text_of(now.status).splitlines()][: rows - 1]
-    return _HOME + "".join(f"{line[:columns]}{_REST_OF_LINE}\r\n" for line in lines) + _REST_OF_SCREEN
+    return _HOME + "".join(f"{line[:columns]}{_REST_OF_LINE}\n" for line in lines) + _REST_OF_SCREEN
 
 
 def _follow_screen(log: Asked, every: float) -> None:
