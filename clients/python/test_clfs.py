@@ -364,7 +364,7 @@ class OnTheProgram(Folder):
         """As one that was forked by other means than Python's."""
         self.format()
         log = self.start(timeout=20)
-        copies = [os.dup(descriptor) for descriptor in (log._program._input.fileno(), log._program._output, log._program._errors)]
+        copies = [os.dup(descriptor) for descriptor in (log._peer._input.fileno(), log._peer._output, log._peer._errors)]
         log.close()
         for copy in copies:
             os.close(copy)
@@ -416,7 +416,8 @@ class OnTheProgram(Folder):
         self.format()
         log = self.start()
         before = log.send(1, "reopen")
-        too_long = log._put(b"x" * 131_073, clfs.Pending(log, 1, clfs.replies.words_of))
+        too_long = clfs.Pending(log, 1, clfs.replies.words_of)
+        log._put(b"x" * 131_073, too_long)
         self.assertEqual(before.result(), ["flushed", "1:0:0"])
         with self.assertRaises(clfs.InputTooLong) as ended:
             too_long.result()

@@ -18,7 +18,8 @@ import subprocess
 import time
 from typing import Any, List, Optional, Type
 
-from .replies import Ended, Locked, NoFolder, NoPermission, TimedOut
+from . import replies
+from .replies import ClfsError, Ended, Locked, NoFolder, NoPermission, TimedOut
 
 _BEGINNINGS = {b"clfs: locked: ": Locked, b"clfs: no folder: ": NoFolder, b"clfs: no permission: ": NoPermission}
 # As many bytes as any of these may have.
@@ -32,7 +33,7 @@ def deadline_after(seconds: Optional[float]) -> Optional[float]:
     return None if seconds is None else time.monotonic() + seconds
 
 
-def _seconds_to(deadline: Optional[float]) -> Optional[float]:
+def seconds_to(deadline: Optional[float]) -> Optional[float]:
     return None if deadline is None else max(0.0, deadline - time.monotonic())
 
 
@@ -78,7 +79,7 @@ class Program:
         """Waits for output, or also for room in the input. Whether there is output, whose end counts as output."""
         poll = self._for_both if for_room else self._for_output
         while True:
-            seconds = _seconds_to(deadline)
+            seconds = seconds_to(deadline)
             ready = [descriptor for descriptor, _ in poll.poll(None if seconds is None else seconds * 1000)]
             if self._errors in ready:
                 ready.remove(self._errors)
@@ -99,10 +100,10 @@ class Program:
         while self._errors >= 0 and self._process.poll() is None:
             if self._for_errors.poll(10):
                 self._take_errors()
-            if _seconds_to(deadline) == 0:
+            if seconds_to(deadline) == 0:
                 raise TimedOut("the program hasn't ended in time, and was killed")
         try:
-            code = self._process.wait(_seconds_to(deadline))
+            code = self._process.wait(seconds_to(deadline))
         except subprocess.TimeoutExpired:
             raise TimedOut("the program hasn't ended in time, and was killed") from None
         for _ in range(_MOST_PIECES):
@@ -110,12 +111,39 @@ class Program:
                 self._take_errors()
         return code
 
+    def wait_for_end(self, deadline: Optional[float]) -> int:
+        """As `reap`, of a program whose standard error another thread reads."""
+        try:
+            return self._process.wait(seconds_to(deadline))
+        except subprocess.TimeoutExpired:
+            raise TimedOut("the program hasn't ended in time") from None
+
+    def pass_errors(self) -> None:
+        """Reads standard error up to its end, for a thread that does nothing else."""
+        with contextlib.suppress(OSError, ValueError):
+            while self._errors >= 0:
+                self._take_errors()
+
     def release(self, seconds: Optional[float]) -> None:
         """Lets go of the program and of its pipes. A program that hasn't ended yet serves nobody any more."""
         self._process.kill()
         self._close_ours()
         with contextlib.suppress(subprocess.TimeoutExpired):
             self._process.wait(seconds)
+
+    def has_ended(self) -> bool:
+        return self._process.poll() is not None
+
+    def ending(self, said: Optional[str], unanswered: int, deadline: Optional[float]) -> Optional[Ended]:
+        """How it has ended, after the end of its output and these last words. None if they don't go with its status."""
+        code = self.reap(deadline)
+        if said is not None and replies.status_of(said) != code:
+            return None
+        return replies.ended(code, said, unanswered, self.cause)
+
+    def ends_well(self, failure: ClfsError) -> bool:
+        """Whether this is the end of a program that was done."""
+        return isinstance(failure, Ended) and failure.status == 0 and failure.unanswered == 0
 
     def leave(self) -> None:
         """Lets go of the pipes alone, in a child that was forked: the program is that of another process."""

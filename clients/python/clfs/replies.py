@@ -12,8 +12,8 @@ from dataclasses import dataclass
 from typing import Any, Callable, ClassVar, Dict, List, Optional, Sequence, Tuple, Type, TypeVar
 
 __all__ = [
-    "ClfsError", "LineTooLong", "UnknownReply", "Closed", "OtherProcess", "InUse", "TimedOut", "Ended", "DiskFailed", "Locked",
-    "NoPermission", "InputTooLong", "LogExists", "NotALog", "NoFolder", "Lsn", "NULL",
+    "ClfsError", "LineTooLong", "UnknownReply", "Closed", "OtherProcess", "InUse", "TimedOut", "NoService", "NoFreeNumber", "Ended",
+    "ServiceEnded", "DiskFailed", "Locked", "NoPermission", "InputTooLong", "LogExists", "NotALog", "NoFolder", "Lsn", "NULL",
     "Mode", "Kind", "Policy", "Record", "Extent", "Info", "NoMemory", "DiskFault", "Broken", "NotEnoughContainers", "Full",
     "ReservationShort", "RecordTooLong", "LinkInvalid", "NoSuchStream", "NoSuchArea", "Damaged", "NoSuchCursor", "StreamLimit", "AreaLimit",
     "CursorLimit", "NameInvalid", "RecordNonexistent", "EndOfLog", "StartOfLog", "NoRestart", "TailInvalid", "ArchiveTailInvalid",
@@ -163,15 +163,23 @@ class InUse(ClfsError):
 class TimedOut(ClfsError):
     """The time of the call is over.
 
-    If the program didn't answer in it, the program was killed, and the handle is of no use: of the lines without a reply a first part may have
+    If the program didn't answer in it, the program was killed (of a service, the connection was ended), and the handle is of no use: of the lines without a reply a first part may have
     been done. If another thread's call was served all the time, the program goes on and so does the handle: the line may still be sent and done, and
     `kill` ends both.
     """
 
 
+class NoService(ClfsError):
+    """Nobody serves there: there is no door or pipe, nobody reads it, or the service has ended before it let this program in."""
+
+
+class NoFreeNumber(ClfsError):
+    """The service let this program in by no number in time, as all were taken. Nothing is left of the attempt."""
+
+
 @dataclass(eq=False)
 class Ended(ClfsError):
-    """The program has ended: with `status`, or by `signal` if the status is None.
+    """The program has ended: with `status`, or by `signal` if the status is None. A connection that `kill` ended has neither.
 
     `unanswered` lines have no reply. Of these a first part may have been done, and none that was to be flushed is known to be.
     """
@@ -186,8 +194,18 @@ class Ended(ClfsError):
     def _cause(self) -> str:
         if self.signal is not None:
             return f"the program was ended by signal {self.signal}"
+        if self.status is None:
+            return "this side has ended the connection"
         said = _STATUSES.get(self.status or 0)
         return f"the program ended with status {self.status}" + (f": {said}" if said else "")
+
+
+class ServiceEnded(Ended):
+    """The service has gone, or it sent this program away. `status` and `signal` are None. Connect again: nothing is done anew, and areas are to
+    be made again."""
+
+    def _cause(self) -> str:
+        return "the service has ended"
 
 
 class DiskFailed(Ended):
@@ -244,6 +262,7 @@ _STATUSES: Dict[int, str] = {
     6: "the folder has no log",
     7: "it has taken as many bytes of input as it may",
     8: "a log is there",
+    18: "no program could come",
     70: "./clfs couldn't bring the program up to date",
 }
 
