@@ -51,8 +51,9 @@ FORMS = """The object of --json; LSNs are texts, sizes bytes, and what isn't kno
   streams                     number, name, base, last (a dead one too), records, live_records, live_bytes (of blocks)
   holders                     name, number, start, live_records, bytes, free_then
 
-A log without a stream tells nothing by a connection. By one program, version, unsynced, end, damage, names and counts of records are null, and so is by a dump reserved. By a connection bytes go up to
-flushed, a stream's last is a live record, a holder's start is at or below its least live record, and free_then is the least that is free.
+A log without a stream tells nothing by a connection. By one program, version, unsynced, end, damage, names and counts of records are null, and by a dump
+reserved is. By a connection bytes go up to flushed, a stream's last is a live record, a holder's start is at or below its least live record, and free_then is
+the least that is free.
 
 The gauges of --prometheus, each with the label `log`: clfs_damaged, clfs_unsynced, clfs_containers, clfs_free_containers, clfs_room_bytes,
 clfs_free_bytes, clfs_reserved_bytes, clfs_archive_behind_bytes, for each stream clfs_live_records, and for each holder clfs_held_bytes. The label `stream`
