@@ -118,9 +118,7 @@ impl<R: Clock + Eprint + Drop> Progress<R> {
     /// Shows how many bytes something has taken or given, as `show` does.
     pub(crate) fn show_count(&self, done: &str, count: u64) {
         self.is_shown.store(true, Ordering::SeqCst);
-        let _said = self
-            .rt
-            .eprint(format_args!("\rclfs: {done} {count} bytes{REST_OF_LINE}\r"));
+        let _said = self.rt.eprint(format_args!("\rclfs: {done} {count} bytes{REST_OF_LINE}\r"));
     }
 
     /// The reading is over, if it has begun: the line is taken away, and how far a log was read isn't told again.
@@ -219,8 +217,10 @@ impl<'a, T: Drop, R: Clock + Eprint + Drop> WatchedPort<'a, T, R> {
         if self.ends {
             self.progress.end();
         }
-        if let Some(count) = &mut self.count {
-            count.begin(self.progress);
+        match &mut self.count {
+            Some(count) => count.begin(self.progress),
+            None if self.ends => self.progress.clear(),
+            None => {}
         }
     }
 
