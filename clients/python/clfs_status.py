@@ -1,4 +1,4 @@
-"""How full a log is, and who keeps it so, from its dump; as text, as JSON and for Prometheus.
+"""How full a log is, and who keeps it so; as text, as JSON and for Prometheus. `status_of` tells it from a dump, `clfs_online` from a connection.
 
 The log needs everything from its hold on, which is the least live record of all streams or, with archiving on, the archive tail if that is less. The
 containers from the hold's on are in use, the others are free. So the holders are listed with the oldest first, and each with what is free once it and all above
@@ -24,7 +24,7 @@ MOST_ROWS = 10
 
 @dataclass(frozen=True)
 class Space:
-    """Containers, and bytes for further records. What areas have reserved isn't on the disk, so it counts as free."""
+    """Containers, and bytes for further records. What areas have reserved counts as free: it isn't on the disk."""
 
     containers: int
     bytes: int
@@ -33,13 +33,13 @@ class Space:
 @dataclass(frozen=True)
 class StreamStatus:
     number: int
-    name: str
+    name: Optional[str]
     base: Lsn
     last: Lsn
-    """Its last record, also one below the base; null if the dump has none."""
-    records: int
-    live_records: int
-    live_bytes: int
+    """Its last record; null if there is none. A dump also tells one below the base, a connection doesn't."""
+    records: Optional[int] = None
+    live_records: Optional[int] = None
+    live_bytes: Optional[int] = None
     """What the blocks take in which it has live records."""
 
 
@@ -47,33 +47,38 @@ class StreamStatus:
 class Holder:
     """A stream with live records, or archiving, whose number and live records are None."""
 
-    name: str
+    name: Optional[str]
     number: Optional[int]
     start: Lsn
-    """Its least live record, or the archive tail."""
+    """Its least live record, or the archive tail. Online no record of the stream below it is needed, and the least live one may lie above."""
     live_records: Optional[int]
     bytes: Optional[int]
-    """From there to the end of the log."""
+    """From there to the end of the log, online to the end of what is on the disk."""
     free_then: Optional[Space]
-    """What is free once this holder and all older ones have moved."""
+    """What is free once this holder and all older ones have moved; online at least so much."""
 
 
 @dataclass(frozen=True)
 class Status:
-    """What a dump tells of a log. What depends on its end is None where the log is damaged."""
+    """What a dump or a connection tells of a log. What depends on its end is None where the log is damaged."""
 
     log: str
+    online: bool
     program: Optional[str]
     unsynced: Optional[bool]
-    version: int
+    version: Optional[int]
     containers: int
     container_bytes: int
     block_bytes: int
     room: int
     """Bytes for records in an empty log of this size."""
     end: Optional[Lsn]
+    flushed: Optional[Lsn]
+    """Below it everything is on the disk: the end, in a log that no program has."""
     damage: Optional[Damage]
     free: Optional[Space]
+    reserved: Optional[int]
+    """Bytes that areas have reserved."""
     archive_tail: Optional[Lsn]
     archive_behind: Optional[int]
     streams: List[StreamStatus]
@@ -181,6 +186,7 @@ def status_of(dump: Dump, log: str, program: Optional[str] = None, unsynced: Opt
     tail = head.archive_tail
     return Status(
         log=log,
+        online=False,
         program=program,
         unsynced=unsynced,
         version=head.version,
@@ -189,8 +195,10 @@ def status_of(dump: Dump, log: str, program: Optional[str] = None, unsynced: Opt
         block_bytes=head.block_sectors * SECTOR,
         room=places.room,
         end=dump.end,
+        flushed=dump.end,
         damage=dump.damage,
         free=places.free(holders[0].start if holders else None),
+        reserved=None,
         archive_tail=tail,
         archive_behind=None if tail is None else places.to_end(tail),
         streams=streams,
@@ -231,7 +239,7 @@ def count(number: int, thing: str) -> str:
 
 
 def _called(holder: Holder) -> str:
-    return holder.name if holder.number is None else f"stream {holder.name}"
+    return "archiving" if holder.number is None else f"stream {holder.name or holder.number}"
 
 
 def _listed(names: Sequence[str]) -> str:
@@ -268,7 +276,8 @@ def _who_keeps(status: Status) -> List[str]:
     assert then is not None
     who = _listed([f"{_called(holder)} from {holder.start}" for holder in keeping])
     more = then.containers - status.free.containers
-    return [f"Kept by {who}.", f"When {_moved(keeping)}, {count(more, 'container')} more, {then.containers} in all, and {size(then.bytes)} are free."]
+    least = "at least " * status.online
+    return [f"Kept by {who}.", f"When {_moved(keeping)}, {least}{count(more, 'container')} more, {then.containers} in all, and {size(then.bytes)} are free."]
 
 
 def _first_line(status: Status) -> str:
@@ -278,7 +287,8 @@ def _first_line(status: Status) -> str:
         return f"{status.log}: DAMAGED at container {wrong.container}, offset {wrong.offset}, byte {wrong.byte}; {shape}; free room isn't known."
     assert status.free is not None
     free = status.free
-    return f"{status.log}: {status.percent} % full: {free.containers} of {shape} free, room for {size(free.bytes)} of {size(status.room)}."
+    reserved = f", {size(status.reserved)} of it reserved" if status.reserved else ""
+    return f"{status.log}: {status.percent} % full: {free.containers} of {shape} free, room for {size(free.bytes)} of {size(status.room)}{reserved}."
 
 
 def _table(rows: List[Tuple[str, ...]], numbers: Iterable[int]) -> List[str]:
@@ -295,10 +305,11 @@ def _table(rows: List[Tuple[str, ...]], numbers: Iterable[int]) -> List[str]:
 
 
 def _holder_rows(status: Status) -> List[Tuple[str, ...]]:
-    rows: List[Tuple[str, ...]] = [("held by", "from", "live records", "to the end", "free when it and those above have moved")]
+    then = "free when it and those above have moved" + ", at least" * status.online
+    rows: List[Tuple[str, ...]] = [("held by", "from", "live records", "to the end", then)]
     free = status.free
     for holder in status.holders:
-        live = "-" if holder.live_records is None else f"{holder.live_records:,}"
+        live = _known(holder.live_records)
         then = "-" if holder.free_then is None else "no more"
         if holder.free_then is not None and holder.free_then != free:
             then = f"{count(holder.free_then.containers, 'container')}, {size(holder.free_then.bytes)}"
@@ -307,11 +318,15 @@ def _holder_rows(status: Status) -> List[Tuple[str, ...]]:
     return rows
 
 
+def _known(number: Optional[int]) -> str:
+    return "-" if number is None else f"{number:,}"
+
+
 def _stream_rows(status: Status) -> List[Tuple[str, ...]]:
     rows: List[Tuple[str, ...]] = [("stream", "number", "base", "last", "records", "live", "in blocks of")]
     for stream in status.streams:
-        numbers = (f"{stream.records:,}", f"{stream.live_records:,}", size(stream.live_bytes))
-        rows.append((stream.name, str(stream.number), str(stream.base), str(stream.last), *numbers))
+        numbers = (_known(stream.records), _known(stream.live_records), "-" if stream.live_bytes is None else size(stream.live_bytes))
+        rows.append((stream.name or "-", str(stream.number), str(stream.base), str(stream.last), *numbers))
     return rows
 
 
@@ -324,12 +339,20 @@ def _facts(status: Status) -> List[str]:
         lines.append(f"Archiving is on, its tail at {status.archive_tail}{behind}.")
     if status.end is not None:
         lines.append(f"The log goes on at {status.end}. Blocks have up to {size(status.block_bytes)}. Its form is version {status.version}.")
+    elif status.online:
+        lines.append(f"All below {status.flushed} is on the disk. Blocks have up to {size(status.block_bytes)}.")
     if status.program is not None:
         lines.append(f"Read by {status.program}.")
     if status.unsynced:
         lines.append("A SYNC HAD FAILED: the mark `unsynced` was there, and the program has copied the log's files.")
-    lines.append("A dump doesn't tell policies, nor what areas have reserved: that counts as free here.")
+    lines.append(_not_told(status))
     return lines
+
+
+def _not_told(status: Status) -> str:
+    if status.online:
+        return "A connection doesn't tell names, records, policies, nor whose areas have reserved how much: that counts as free here."
+    return "A dump doesn't tell policies, nor what areas have reserved: that counts as free here."
 
 
 def first_lines(status: Status) -> List[str]:
@@ -368,14 +391,15 @@ def prometheus_of(status: Status) -> str:
             lines.append(f"clfs_{name}{{log={_quoted(status.log)}{more}}} {value}")
 
     free = status.free
-    gauge("damaged", "Whether the log has a wrong byte.", [(None, int(status.damage is not None))])
+    gauge("damaged", "Whether the log has a wrong byte.", [(None, None if status.online else int(status.damage is not None))])
     gauge("unsynced", "Whether a sync had failed before this look.", [(None, None if status.unsynced is None else int(status.unsynced))])
     gauge("containers", "Containers of the log.", [(None, status.containers)])
     gauge("free_containers", "Containers that aren't in use.", [(None, free and free.containers)])
     gauge("room_bytes", "Bytes for records in an empty log of this size.", [(None, status.room)])
     gauge("free_bytes", "Bytes for further records.", [(None, free and free.bytes)])
+    gauge("reserved_bytes", "Bytes of these that areas have reserved.", [(None, status.reserved)])
     gauge("archive_behind_bytes", "Bytes from the archive tail to the end.", [(None, status.archive_behind)])
     gauge("live_records", "Live records of a stream.", [(stream.name, stream.live_records) for stream in status.streams], "stream")
-    held = [(holder.name if holder.number is not None else "", holder.bytes) for holder in status.holders]
+    held = [("" if holder.number is None else holder.name or str(holder.number), holder.bytes) for holder in status.holders]
     gauge("held_bytes", "Bytes from what a stream, or archiving, whose name is empty, needs first to the end.", held, "stream")
     return "\n".join(lines) + "\n"

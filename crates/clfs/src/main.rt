@@ -5,7 +5,7 @@
 //! clients have paths of their own, by `clfs_engine::run_share`, and by a door by `clfs_engine::run_door`. A word that isn't text, or no folder, is no command.
 //! `--help` and `--version` are words in the folder's place, answered here. Standard error has what standard output doesn't say: which words are allowed in the
 //! place of those that are no command, or the help that they ask for, and why a run or a client ended without its work done. On a terminal it has how far a
-//! large log was read, but for `share`.
+//! large log was read, archived or made, but for `share`.
 #![tactic(auto)]
 
 mod clients;
@@ -18,7 +18,10 @@ use clfs_engine::{
     DONE, NO_MEMORY, NOT_A_LOG, SINK_FAULT, SOURCE_FAULT, USAGE, run, run_alone, run_door,
     run_share,
 };
-use clfs_files::{EndsProgress, FileUse, Folder, Progress, SyncedOutput, SystemPort, Watched};
+use clfs_files::{
+    FileUse, Folder, PortUse, Progress, SyncedOutput, SystemPort, Watched, WatchedPort,
+    is_regular_output,
+};
 use clfs_lineage::Followed;
 use clfs_ports::Source;
 use std::alloc::{AllocError, Global};
@@ -94,6 +97,34 @@ fn use_of_files(words: &[String]) -> FileUse {
     }
 }
 
+// What the reads of standard input say of the work on a terminal.
+fn use_of_input(words: &[String]) -> PortUse {
+    if names(words, "restore") {
+        PortUse::Counts("read")
+    } else {
+        PortUse::Ends
+    }
+}
+
+// What the writes to standard output say of it. Where others may have the terminal too, as behind a pipe, the first write is the last word.
+fn use_of_output(rt: &HostRuntime, words: &[String]) -> PortUse {
+    if !is_regular_output(rt) {
+        return PortUse::Ends;
+    }
+    if names(words, "dump") {
+        PortUse::GoesOn
+    } else if names(words, "archive") {
+        PortUse::Counts("archived")
+    } else {
+        PortUse::Ends
+    }
+}
+
+// Whether the command makes all files of a log.
+fn makes_log(words: &[String]) -> bool {
+    names(words, "format") || names(words, "restore")
+}
+
 // Says that archives were read that aren't of one log in their order, as far as that was seen.
 fn tell_stranger<S: Source + Drop>(rt: &HostRuntime, source: &Followed<S>) {
     if let Some(number) = source.stranger() {
@@ -155,17 +186,19 @@ fn run_folder(
 ) -> u8 {
     let progress = Progress::new(*rt, &rt.stderr());
     let alloc = rt.alloc();
-    let input = EndsProgress::new(SystemPort::new(rt.stdin(), *rt), &progress);
+    let input = SystemPort::new(rt.stdin(), *rt);
+    let input = WatchedPort::new(input, &progress, use_of_input(words));
     let mut source = Followed::new(alloc, input, names(words, "restore"));
-    let output = EndsProgress::new(SystemPort::new(rt.stdout(), *rt), &progress);
+    let output = SystemPort::new(rt.stdout(), *rt);
+    let output = WatchedPort::new(output, &progress, use_of_output(rt, words));
     let mut sink = SyncedOutput::new(output, *rt, names(words, "archive"));
     let folder = Folder::used_for(*rt, path, use_of_files(words));
-    let folder = Watched::new(folder, &progress);
+    let folder = Watched::new(folder, &progress, makes_log(words));
     let ended = match run_alone(alloc, words, &mut source, &mut sink, folder) {
         Ok(ended) => ended,
         Err(needs) => run(threads, alloc, words, &mut source, &mut sink, needs.disk),
     };
-    progress.end();
+    progress.clear();
     tell_stranger(rt, &source);
     tell_no_log(ended.status, ended.disk.folder());
     ended.status

@@ -162,6 +162,22 @@ soon as it is whole. Client 1 has the first two paths, and each line begins with
 its areas are deleted then. If one client's IN or OUT fails, or a line has more than 131072 bytes, that client alone is done, and standard error says so.
 Status 0: all clients are done. 3: standard output can't be written. 4: disk fault, or damage. 5: out of memory before a path was opened. 6: not a log.
 17: a path can't be used, and nothing was opened. 18: no client was served.
+
+Answers the lines of programs that come and go, over one log
+
+Usage: clfs FOLDER share [OPTIONS] --door <PLACE> --clients <N>
+
+Options:
+      --door <PLACE>       Folder in which the named pipe door is, to which programs write the names of theirs
+      --clients <N>        Programs that may be there at a time, 1 to 64
+      --write-buffers <W>  Full blocks that may wait before all are written, 1 to 64 [default: 4]
+
+Opens the log, then PLACE/door, which has to be a named pipe, and prints ready. A program makes the pipes PLACE/NAME.in and PLACE/NAME.out, and writes NAME,
+of at most 64 letters, digits, _, - and . but not first, and a line feed to the door. Once a client is free, its number is the first reply, as 3 client, and
+each of its lines begins with that. Once NAME.in ends the program has left: its areas are deleted, and the client is free. The line stop lets no more in,
+and it ends when all have left. What else comes to the door is said on standard error.
+Status 0: all have left. 3: standard output can't be written. 4: disk fault, or damage. 5: out of memory before a program came. 6: not a log.
+18: no program could come, and standard error says why.
 ";
 
 #[test]
@@ -187,7 +203,7 @@ const FORMS: [(&str, &str); 5] = [
     ),
     (
         "share a",
-        "clfs: share takes IN and OUT of each client, 1 to 64 clients and no path twice, and --write-buffers W, 1 to 64, or not; each is given once, and numbers are decimal, without a sign or a zero in front",
+        "clfs: share takes IN and OUT of each client, 1 to 64 clients and no path twice, or --door PLACE and --clients N, 1 to 64; and --write-buffers W, 1 to 64, or not; each is given once, and numbers are decimal, without a sign or a zero in front",
     ),
     (
         "dump --from 1",

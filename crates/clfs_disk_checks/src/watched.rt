@@ -1,6 +1,6 @@
-// When something is written of a folder's reading, on a terminal that counts it, by a clock of its own.
+// When something is written of a folder's reading, or of what is written and printed, on a terminal that counts it, by a clock of its own.
 use clfs_disk::Disk;
-use clfs_files::{EndsProgress, Folder, Progress, Watched};
+use clfs_files::{Folder, PortUse, Progress, Watched, WatchedPort};
 use clfs_ports::{Sink, SteadySink};
 use std::alloc::{AllocError, Global};
 use std::fmt::Display;
@@ -125,10 +125,42 @@ const QUIET: &[Step] = &[
     Step::Print(0),
 ];
 
-fn own_path(rt: &HostRuntime) -> io::Result<String> {
+// A report that is printed while the log is read on, as into a file.
+const READ_ON: &[Step] = &[
+    Step::Read(0, 0, 0),
+    Step::Print(0),
+    Step::Read(1, 0, 1),
+    Step::Print(1),
+    Step::Read(1, 1_000_000, 2),
+    Step::Read(2, 0, 3),
+];
+
+// What is printed is counted, once the line of what was read is gone.
+const PRINTED: &[Step] = &[
+    Step::Read(0, 0, 0),
+    Step::Read(1, 0, 1),
+    Step::Print(2),
+    Step::Print(3),
+    Step::Read(2, 0, 3),
+    Step::Print(4),
+];
+
+// What is written is counted.
+const WRITTEN: &[Step] = &[
+    Step::Read(0, 0, 0),
+    Step::Write(0),
+    Step::Write(1),
+    Step::Write(2),
+    Step::Sync(2),
+    Step::Print(3),
+    Step::Print(3),
+    Step::Write(4),
+];
+
+fn own_path(rt: &HostRuntime, test: &str) -> io::Result<String> {
     let folder = env::temp_dir(rt)?;
     let process = process::id(rt.process());
-    let path = format!(in rt.alloc(); "{}/clfs_watched_{process}", folder.as_path().as_str())?;
+    let path = format!(in rt.alloc(); "{}/clfs_{test}_{process}", folder.as_path().as_str())?;
     let _none = fs::remove_dir_all(rt, &path);
     Ok(path)
 }
@@ -164,12 +196,26 @@ fn are_done<D: Disk, K: Sink>(
     true
 }
 
+// What is told besides reading.
+#[derive(Clone, Copy)]
+struct Told {
+    report: PortUse,
+    is_made: bool,
+}
+
+// As in most commands: nothing.
+const READING: Told = Told {
+    report: PortUse::Ends,
+    is_made: false,
+};
+
 // The same with a folder at a path.
 fn all_go(
     rt: &HostRuntime,
     path: &str,
     is_terminal: bool,
     pace: u64,
+    told: Told,
     steps: &[Step],
 ) -> io::Result<bool> {
     let mut piece = room(rt.alloc())?;
@@ -183,8 +229,9 @@ fn all_go(
         written: &written,
     };
     let progress = Progress::new(screen, &screen);
-    let mut disk = Watched::new(folder, &progress);
-    let mut sink = EndsProgress::new(SteadySink::new(Vec::new(rt.alloc())), &progress);
+    let mut disk = Watched::new(folder, &progress, told.is_made);
+    let sink = SteadySink::new(Vec::new(rt.alloc()));
+    let mut sink = WatchedPort::new(sink, &progress, told.report);
     is_send(&disk);
     Ok(are_done(&mut disk, &mut sink, &mut piece, &written, steps))
 }
@@ -205,13 +252,39 @@ fn make_at(rt: &HostRuntime, path: &str) -> io::Result<bool> {
 
 #[test]
 fn a_reading_is_told(rt: HostRuntime) -> io::Result<()> {
-    let path = own_path(&rt)?;
+    let path = own_path(&rt, "watched")?;
     assert!(rt; make_at(&rt, &path)?);
-    assert!(rt; all_go(&rt, &path, true, 600, OPENED)?);
+    assert!(rt; all_go(&rt, &path, true, 600, READING, OPENED)?);
     for steps in ENDED {
-        assert!(rt; all_go(&rt, &path, true, 600, steps)?);
+        assert!(rt; all_go(&rt, &path, true, 600, READING, steps)?);
     }
-    assert!(rt; all_go(&rt, &path, true, 100, QUIET)?);
-    assert!(rt; all_go(&rt, &path, false, 600, QUIET)?);
+    assert!(rt; all_go(&rt, &path, true, 100, READING, QUIET)?);
+    assert!(rt; all_go(&rt, &path, false, 600, READING, QUIET)?);
+    fs::remove_dir_all(&rt, &path)
+}
+
+#[test]
+fn long_works_are_told(rt: HostRuntime) -> io::Result<()> {
+    let path = own_path(&rt, "counted")?;
+    assert!(rt; make_at(&rt, &path)?);
+    let read_on = Told {
+        report: PortUse::GoesOn,
+        is_made: false,
+    };
+    let printed = Told {
+        report: PortUse::Counts("archived"),
+        is_made: false,
+    };
+    let written = Told {
+        report: PortUse::Ends,
+        is_made: true,
+    };
+    assert!(rt; all_go(&rt, &path, true, 600, read_on, READ_ON)?);
+    assert!(rt; all_go(&rt, &path, true, 600, printed, PRINTED)?);
+    assert!(rt; all_go(&rt, &path, true, 600, written, WRITTEN)?);
+    for told in &[read_on, printed, written] {
+        assert!(rt; all_go(&rt, &path, true, 100, *told, QUIET)?);
+        assert!(rt; all_go(&rt, &path, false, 600, *told, QUIET)?);
+    }
     fs::remove_dir_all(&rt, &path)
 }

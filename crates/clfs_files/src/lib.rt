@@ -10,8 +10,8 @@
 //!
 //! Programs that come and go do so by a `Door`, a named pipe in a folder, and each client's number is given to them by an `Entrance`.
 //!
-//! Who waits for a large log sees on a terminal how far it was read: `Watched` passes each call of a folder on as it is and counts what is read,
-//! and `Progress` is the line that tells it.
+//! Who waits for a large log sees on a terminal how far the work has come: `Watched` passes each call of a folder on as it is and counts what is read or
+//! written, `WatchedPort` those of a source or a sink, and `Progress` is the line that tells it.
 #![tactic(auto)]
 
 mod access;
@@ -35,7 +35,7 @@ pub use folder::Folder;
 pub use location::FileUse;
 pub use paths::{ClientPaths, ClientPort};
 pub use ports::{ClientFile, SystemPort};
-pub use progress::{EndsProgress, Progress};
+pub use progress::{PortUse, Progress, WatchedPort};
 pub use seen::SeenFiles;
-pub use synced::SyncedOutput;
+pub use synced::{SyncedOutput, is_regular_output};
 pub use watched::Watched;

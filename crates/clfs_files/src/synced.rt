@@ -14,6 +14,14 @@ use std::io;
 // The name of what standard output leads to.
 const STANDARD_OUTPUT: &str = "/proc/self/fd/1";
 
+/// Whether standard output is a regular file, as far as that can be found out.
+pub fn is_regular_output(rt: &HostRuntime) -> bool {
+    match fs::metadata(rt, STANDARD_OUTPUT) {
+        Ok(found) => found.is_file(),
+        Err(_) => false,
+    }
+}
+
 // What standard output leads to, as far as that matters here.
 #[derive(Drop)]
 enum Target {

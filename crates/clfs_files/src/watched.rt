@@ -1,4 +1,4 @@
-// A folder whose reading is told on a terminal.
+// A folder whose reading is told on a terminal, and what is written, where a whole log is made.
 //
 // Each call is passed on as it is, so what this disk shows is what the folder shows. Who opens or checks a log syncs the disk and then reads forward:
 // the base file, and then each file of a listed container from its beginning, in pieces that overlap by less than a block. So the bytes that were
@@ -8,19 +8,13 @@ ghost use Rattle.std.specs.Prelude.{◌≡◌};
 ghost use Rattle.clfs_files.specs.Shown.{shown};
 
 use crate::folder::Folder;
-use crate::progress::Progress;
+use crate::progress::{Count, Pace, Progress};
 use clfs_disk::{Disk, Failed, GrowRefusal};
 use std::io::Eprint;
-use std::time::{Clock, Duration, Instant};
+use std::time::Clock;
 
 // The most bytes of a block. The next piece begins at a block that the last one didn't have as a whole.
 const LARGEST_BLOCK: u64 = 1 << 16;
-
-// How many milliseconds a reading takes before it is told.
-const PATIENCE: u64 = 1000;
-
-// How many milliseconds a line stands at least before the next one.
-const PAUSE: u64 = 100;
 
 // How far the files were read.
 #[derive(Clone, Copy)]
@@ -59,16 +53,21 @@ pub struct Watched<'a, R: Clock + Eprint + Drop> {
     folder: Folder,
     progress: &'a Progress<R>,
     reading: Reading,
-    // When the first call came, and when the line was shown last.
-    begun: Option<Instant>,
-    told: Option<Instant>,
+    pace: Pace,
+    // What is written, if that is told.
+    written: Option<Count>,
 }
 
 impl<'a, R: Clock + Eprint + Drop> Watched<'a, R> {
-    /// The folder, of which no call was made yet.
-    pub fn new(folder: Folder, progress: &'a Progress<R>) -> Watched<'a, R>
+    /// The folder, of which no call was made yet. Where a whole log is made, also what is written and grown is told.
+    pub fn new(folder: Folder, progress: &'a Progress<R>, is_made: bool) -> Watched<'a, R>
         ensures { result.folder ≡ folder }
     {
+        let written = if is_made {
+            Some(Count::new("written"))
+        } else {
+            None
+        };
         Watched {
             folder,
             progress,
@@ -77,8 +76,8 @@ impl<'a, R: Clock + Eprint + Drop> Watched<'a, R> {
                 end: 0,
                 judged: 0,
             },
-            begun: None,
-            told: None,
+            pace: Pace::new(),
+            written,
         }
     }
 
@@ -91,18 +90,28 @@ impl<'a, R: Clock + Eprint + Drop> Watched<'a, R> {
     fn begin(&mut self)
         ensures { self.new.folder ≡ self.old.folder }
     {
-        if self.begun.is_none() && self.progress.is_wanted() {
-            self.begun = Instant::now(self.progress.clock()).ok();
+        if self.progress.is_wanted() {
+            self.pace.begin(self.progress.clock());
             self.progress.begin();
         }
     }
 
-    // Whether the line is to be shown at this time.
-    fn is_due(&self, now: Instant) -> bool {
-        match (self.begun, self.told) {
-            (Some(_), Some(told)) => Duration::from_millis(PAUSE) <= now.duration_since(told),
-            (Some(begun), None) => Duration::from_millis(PATIENCE) <= now.duration_since(begun),
-            (None, _) => false,
+    // A call comes that changes a file, so the reading is over.
+    fn begin_change(&mut self)
+        ensures { self.new.folder ≡ self.old.folder }
+    {
+        self.progress.end();
+        if let Some(count) = &mut self.written {
+            count.begin(self.progress);
+        }
+    }
+
+    // So many bytes were written or grown.
+    fn note_change(&mut self, bytes: u64)
+        ensures { self.new.folder ≡ self.old.folder }
+    {
+        if let Some(count) = &mut self.written {
+            count.add(bytes, self.progress);
         }
     }
 
@@ -118,11 +127,7 @@ impl<'a, R: Clock + Eprint + Drop> Watched<'a, R> {
             return;
         }
         self.reading = self.reading.with(file, at, count);
-        let Ok(now) = Instant::now(self.progress.clock()) else {
-            return;
-        };
-        if self.is_due(now) {
-            self.told = Some(now);
+        if self.pace.is_due(self.progress.clock()) {
             self.progress
                 .show(self.reading.judged, self.folder.byte_count());
         }
@@ -142,18 +147,22 @@ impl<'a, R: Clock + Eprint + Drop> Disk for Watched<'a, R> {
     }
 
     fn write(&mut self, file: u16, at: u64, bytes: &[u8]) -> Result<(), Failed> {
-        self.progress.end();
-        self.folder.write(file, at, bytes)
+        self.begin_change();
+        self.folder.write(file, at, bytes)?;
+        self.note_change(bytes.len() as u64);
+        Ok(())
     }
 
     fn grow(&mut self, file: u16, len: u64) -> Result<(), GrowRefusal> {
-        self.progress.end();
-        self.folder.grow(file, len)
+        self.begin_change();
+        self.folder.grow(file, len)?;
+        self.note_change(len);
+        Ok(())
     }
 
     fn sync(&mut self) -> Result<(), Failed> {
         // The first one begins the reading.
-        if self.begun.is_some() {
+        if self.pace.has_begun() {
             self.progress.end();
         }
         self.begin();
