@@ -134,17 +134,26 @@ static int first_line(int replies, int read_by_service, long long deadline, int 
 
 /* Opening. */
 
-/* Opens a pipe without waiting. */
+/* Opens a named pipe without waiting. Anything else is as a pipe that nobody reads (ENXIO): a line that is written into a file would change it. */
 static bool open_pipe(int *descriptor, const char *path, int flags)
 {
-    *descriptor = clfs_above_standard(open(path, flags | O_NONBLOCK | O_CLOEXEC));
-    return *descriptor >= 0;
+    struct stat found;
+    if (stat(path, &found)) return false;
+    if (S_ISFIFO(found.st_mode)) {
+        *descriptor = clfs_above_standard(open(path, flags | O_NONBLOCK | O_CLOEXEC));
+        if (*descriptor < 0) return false;
+        /* (it may have been replaced meanwhile) */
+        if (!fstat(*descriptor, &found) && S_ISFIFO(found.st_mode)) return true;
+        clfs_close_one(descriptor);
+    }
+    errno = ENXIO;
+    return false;
 }
 
-/* Opens a pipe for writing. CLFS_NO_SERVICE if nobody reads it. */
-static int open_for_service(int *descriptor, const char *path)
+/* Opens a pipe of a service. CLFS_NO_SERVICE if it is none, or if it is opened for writing and nobody reads it. */
+static int open_of_service(int *descriptor, const char *path, int flags)
 {
-    if (open_pipe(descriptor, path, O_WRONLY)) return 0;
+    if (open_pipe(descriptor, path, flags)) return 0;
     return errno == ENXIO ? CLFS_NO_SERVICE : CLFS_SYSTEM;
 }
 
@@ -196,7 +205,7 @@ static int open_visit(struct clfs_program *visit, const struct paths *paths)
     if (answer) return answer;
     bool made = open_pipe(&visit->guard, paths->in, O_RDWR) && open_pipe(&visit->input, paths->in, O_WRONLY);
     made = made && open_pipe(&visit->output, paths->out, O_RDONLY);
-    answer = made ? open_for_service(&visit->door, paths->door) : CLFS_SYSTEM;
+    answer = made ? open_of_service(&visit->door, paths->door, O_WRONLY) : CLFS_SYSTEM;
     give_lock();
     return answer;
 }
@@ -259,12 +268,14 @@ static int open_pair(struct clfs_program *pair, const char *in, const char *out,
     int answer = begin_opening(pair);
     if (answer) return answer;
     /* (before the input, so that the service finds a reader when it opens this one) */
-    answer = open_pipe(&pair->output, out, O_RDONLY) ? open_for_service(&pair->input, in) : CLFS_SYSTEM;
+    answer = open_of_service(&pair->output, out, O_RDONLY);
+    if (!answer) answer = open_of_service(&pair->input, in, O_WRONLY);
+    bool may_begin = pair->output >= 0;
     give_lock();
-    for (int pause = FIRST_PAUSE; answer == CLFS_NO_SERVICE && milliseconds_to(deadline); pause = pause < LONGEST_PAUSE ? 2 * pause : pause) {
+    for (int pause = FIRST_PAUSE; may_begin && answer == CLFS_NO_SERVICE && milliseconds_to(deadline); pause = pause < LONGEST_PAUSE ? 2 * pause : pause) {
         poll(NULL, 0, pause);
         take_lock();
-        answer = open_for_service(&pair->input, in);
+        answer = open_of_service(&pair->input, in, O_WRONLY);
         give_lock();
     }
     return answer;

@@ -498,6 +498,21 @@ static void a_stop_waits_for_those_inside(void)
     CHECK(count_of("after the stop") == 1);
 }
 
+/* Nothing but pipes is opened, and a file stays as it is. */
+static void what_is_no_pipe(void)
+{
+    static const char *const paths[][2] = {{"file", "out0"}, {"in0", "file"}, {"file", "file"}};
+    struct clfs *log;
+    struct stat state;
+    mkfifo("in0", 0600);
+    mkfifo("out0", 0600);
+    close(open("file", O_WRONLY | O_CREAT, 0600));
+    for (int at = 0; at < 3; at++) {
+        CHECK(clfs_attach(&log, 1, paths[at][0], paths[at][1], 100) == CLFS_NO_SERVICE && clfs_close(log, NULL) == CLFS_NO_SERVICE);
+        CHECK(stat("file", &state) == 0 && state.st_size == 0);
+    }
+}
+
 static void pairs(void)
 {
     static const char *const paths[] = {"in1", "out1", "in2", "out2"};
@@ -581,6 +596,7 @@ int main(int count, char **words)
     a_service_that_is_killed();
     no_signal_is_raised();
     a_stop_waits_for_those_inside();
+    what_is_no_pipe();
     pairs();
     what_is_written_and_said();
     if (failures == 0) printf("all well\n");

@@ -107,7 +107,7 @@ pub(crate) fn visit(place: &Path, timeout: Option<Duration>) -> Result<(Connecti
 pub(crate) fn pair(input: &Path, output: &Path, timeout: Option<Duration>) -> Result<Connection, Error> {
     let mut patience = Patience::new(timeout);
     // (before the input, so that the service finds a reader when it opens this one)
-    let mut replies = open(output, Way::Read).map_err(Error::System)?;
+    let mut replies = open(output, Way::Read).map_err(unopened)?;
     let mut lines = loop {
         match open_for_service(input)? {
             Some(lines) => break lines,
@@ -119,7 +119,8 @@ pub(crate) fn pair(input: &Path, output: &Path, timeout: Option<Duration>) -> Re
         Err(error) if error.kind() == ErrorKind::BrokenPipe => return Err(Error::NoService),
         written => written.map_err(Error::System)?,
     }
-    let said = first_line(&mut replies, || Ok(open_for_service(input)?.is_some()), &mut patience)?.ok_or(Error::NoService)?;
+    let is_served = || Ok(open_for_service(input)?.is_some());
+    let said = first_line(&mut replies, is_served, &mut patience)?.ok_or(Error::NoService)?;
     if said != BAD_LINE {
         return Err(Error::UnknownReply(said));
     }
@@ -243,17 +244,37 @@ enum Way {
     Both,
 }
 
-/// Opens a pipe without waiting.
+/// Opens a named pipe without waiting. Anything else is as a pipe that nobody reads: a line that is written into a file would change it.
 fn open(path: &Path, way: Way) -> io::Result<File> {
-    OpenOptions::new().read(way != Way::Write).write(way != Way::Read).custom_flags(O_NONBLOCK).open(path)
+    check_pipe(&fs::metadata(path)?)?;
+    let opened = OpenOptions::new().read(way != Way::Write).write(way != Way::Read).custom_flags(O_NONBLOCK).open(path)?;
+    // (it may have been replaced meanwhile)
+    check_pipe(&opened.metadata()?)?;
+    Ok(opened)
 }
 
-/// Opens a pipe for writing; None if nobody reads it.
+fn check_pipe(found: &fs::Metadata) -> io::Result<()> {
+    if found.file_type().is_fifo() {
+        return Ok(());
+    }
+    Err(io::Error::from_raw_os_error(ENXIO))
+}
+
+/// Why a pipe of a service isn't open.
+fn unopened(error: io::Error) -> Error {
+    match error.raw_os_error() {
+        Some(ENXIO) => Error::NoService,
+        _ => Error::System(error),
+    }
+}
+
+/// Opens a pipe for writing; None if it isn't there, or nobody reads it.
 fn open_for_service(path: &Path) -> Result<Option<File>, Error> {
-    match open(path, Way::Write) {
+    match open(path, Way::Write).map_err(unopened) {
         Ok(file) => Ok(Some(file)),
-        Err(error) if error.raw_os_error() == Some(ENXIO) || error.kind() == ErrorKind::NotFound => Ok(None),
-        Err(error) => Err(Error::System(error)),
+        Err(Error::NoService) => Ok(None),
+        Err(Error::System(error)) if error.kind() == ErrorKind::NotFound => Ok(None),
+        Err(error) => Err(error),
     }
 }
 

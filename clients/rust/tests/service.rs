@@ -367,6 +367,20 @@ fn pairs() {
     assert_eq!(room.records(), ["1", "2"]);
 }
 
+/// Nothing but pipes is opened, and a file stays as it is.
+#[test]
+fn what_is_no_pipe() {
+    let room = Room::new();
+    let [input, output, file] = ["in", "out", "file"].map(|name| room.0.join(name));
+    make_pipe(&input);
+    make_pipe(&output);
+    fs::write(&file, "precious").unwrap();
+    for (lines, replies) in [(&file, &output), (&input, &file), (&file, &file)] {
+        assert!(matches!(Log::attach(1, lines, replies, SHORT), Err(Error::NoService)));
+        assert_eq!(fs::read(&file).unwrap(), b"precious");
+    }
+}
+
 /// What is under way at a pair of pipes that this thread serves: what it says to the empty line and then is given, and what came after that line.
 fn serve_pair<T>(says: &str, meanwhile: impl FnOnce(Result<Log, Error>) -> T) -> (T, String) {
     let room = Room::new();
