@@ -100,7 +100,7 @@ class Checkpoints:
     def is_due(self, sectors):
         """Whether so many sectors were written since the last one."""
         info = self.log.info(self.area.stream)
-        last, base = (lsn.container * info.size + lsn.offset // 512 for lsn in (info.last, info.base))
+        last, base = (lsn.container * info.container_sectors + lsn.offset // 512 for lsn in (info.last, info.base))
         return last > base + sectors
 
     def append(self, data, previous=clfs.NULL):
@@ -199,9 +199,8 @@ class Store:
                     self.checkpoints = Checkpoints(self.place)
                 if self.checkpoints.is_due(sectors):
                     self.checkpoint()
-            except FINAL as error:
-                print(f"kv: {error}", file=sys.stderr)
-                os._exit(1)
+            except FINAL:
+                raise
             except clfs.ClfsError:
                 self.checkpoints.close()
 
@@ -234,13 +233,13 @@ class Server(socketserver.ThreadingUnixStreamServer):
 
 def main(place, path, sectors):
     store = Store(place)
-    threading.Thread(target=store.keep_checkpoints, args=[int(sectors)], daemon=True).start()
     with contextlib.suppress(FileNotFoundError):
         os.unlink(path)
     with Server(path, Program) as server:
         server.store = store
+        threading.Thread(target=server.serve_forever, daemon=True).start()
         print("ready", flush=True)
-        server.serve_forever()
+        store.keep_checkpoints(int(sectors))
 
 
 if __name__ == "__main__":
