@@ -91,7 +91,7 @@ static int order(const void *left, const void *right)
 static void tell(double *times, int count, double all)
 {
     qsort(times, count, sizeof *times, order);
-    printf("%.0f %.0f %.0f %.0f\n", count / all * 1e6, times[count / 2], times[count / 100 * 99], times[count - 1]);
+    printf("%.0f %.0f %.0f %.0f\n", count / all * 1e6, times[count / 2], times[(int)(count * 0.99)], times[count - 1]);
 }
 
 /* The processes together; the time is that from the first one's start to the last one's end. */
